@@ -1,0 +1,17 @@
+//! What every crate above needs and none should write twice: want of memory, a list that contracts see as a
+//! list, bytes as text, and numbers as decimal text. Contracts promise the exact list after each call, and that
+//! a call that runs out of memory leaves its list as it was.
+#![tactic(auto)]
+
+mod memory;
+mod sequence;
+mod text;
+mod threads;
+
+pub use memory::NoMemory;
+pub use sequence::Sequence;
+pub use text::{Line, Text};
+pub use threads::crosses_threads;
+
+#[cfg(test)]
+mod tests;
