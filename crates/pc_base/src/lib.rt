@@ -3,11 +3,13 @@
 //! a call that runs out of memory leaves its list as it was.
 #![tactic(auto)]
 
+mod distinct;
 mod memory;
 mod sequence;
 mod text;
 mod threads;
 
+pub use distinct::all_differ;
 pub use memory::NoMemory;
 pub use sequence::Sequence;
 pub use text::{Line, Text};

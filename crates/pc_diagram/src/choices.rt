@@ -1,0 +1,79 @@
+//! Choices of values for variables.
+
+ghost use Rattle.std.specs.Prelude.{◌≡◌, [], ◌∷◌, ◌++◌, false, IsTrue, OnOk, OnErr};
+ghost use Rattle.pc_diagram.specs.Choices.{is_chosen, value_of, without, are_distinct};
+
+use crate::choice::Choice;
+use pc_base::NoMemory;
+use std::alloc::Global;
+use std::marker::Model;
+
+/// The choices in the order in which they were made. No variable is chosen twice.
+#[derive(Debug, Drop)]
+pub struct Choices {
+    items: Vec<Choice>,
+}
+
+impl Model for Choices {
+    ghost use Rattle.std.specs.Prelude.{List, IsTrue};
+    ghost use Rattle.pc_diagram.specs.declared.choice.Choice.{Choice};
+    ghost use Rattle.pc_diagram.specs.Choices.{are_distinct};
+
+    ghost Value = { List Choice };
+
+    ghost view = { λ c. c.items.items };
+
+    ghost invariant = { λ c. IsTrue (are_distinct c.items.items) };
+}
+
+impl Choices {
+    /// No choices. It takes no memory until it grows.
+    pub fn new(alloc: Global) -> Choices
+        ensures { result ≡ [] }
+    {
+        Choices {
+            items: Vec::new(alloc),
+        }
+    }
+
+    pub fn as_slice(&self) -> &[Choice]
+        ensures items { result.now ≡ self.now }
+        ensures distinct { IsTrue (are_distinct self.now) }
+    {
+        self.items.as_slice()
+    }
+
+    pub fn is_chosen(&self, variable: u32) -> bool
+        ensures { result ≡ is_chosen self.now variable }
+    {
+        self.items.iter().any(|choice| choice.variable == variable)
+    }
+
+    /// The value chosen for a variable, if one is.
+    pub fn value_of(&self, variable: u32) -> Option<u32>
+        ensures { result ≡ value_of self.now variable }
+    {
+        self.items
+            .iter()
+            .find(|choice| choice.variable == variable)
+            .map(|choice| choice.value)
+    }
+
+    /// Chooses a value for a variable that isn't chosen. The choice goes to the end. Want of memory leaves the
+    /// choices as they were.
+    pub fn choose(&mut self, variable: u32, value: u32) -> Result<(), NoMemory>
+        requires { is_chosen self.old variable ≡ false }
+        ensures ok { OnOk result (self.new ≡ self.old ++ record { variable = variable; value = value } ∷ []) }
+        ensures err { OnErr result (self.new ≡ self.old) }
+    {
+        self.items.push(Choice { variable, value })?;
+        Ok(())
+    }
+
+    /// Takes back the choice of a variable, if it is chosen. The others keep their order.
+    pub fn retract(&mut self, variable: u32)
+        ensures { self.new ≡ without self.old variable }
+    {
+        self.items.retain(|choice| choice.variable != variable);
+    }
+}

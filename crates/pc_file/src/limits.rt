@@ -1,0 +1,164 @@
+//! The limits of a file.
+
+ghost use Rattle.std.specs.Prelude.{◌≡◌, nat_le, ◌==◌, ◌&&◌, length, map, is_some};
+ghost use Rattle.std.specs.List.{list_all, list_any, zip};
+ghost use Rattle.pc_base.specs.Distinct.{all_differ};
+ghost use Rattle.pc_file.specs.Limits.{is_reserved, is_cost, is_value, is_variable, has_variable, has_value, is_row, is_spelled, is_shallow, is_rule};
+ghost use Rattle.pc_file.specs.Spelling.{same_spelling};
+ghost use Rattle.pc_file.specs.Limits.{is_spelled_step};
+ghost use Rattle.pc_file.specs.declared.rule.Rule.TheOpen.{OneOf, Table};
+ghost use Rattle.pc_file.specs.Nesting.{nesting, open_in_place, open_in_places};
+
+use crate::holds::value_name;
+use crate::rule::Rule;
+use crate::variable::{Value, Variable};
+use pc_base::{Sequence, all_differ};
+use pc_names::Name;
+
+const COST_LIMIT: i64 = 1_000_000_000;
+
+fn is_cost(cost: i64) -> bool
+    ensures { result ≡ is_cost cost }
+{
+    -COST_LIMIT <= cost && cost <= COST_LIMIT
+}
+
+fn is_value(costs: usize, value: &Value) -> bool
+    ensures { result ≡ is_value costs value.now }
+{
+    is_cost(value.first) && is_cost(value.second) && (costs == 2 || value.second == 0)
+}
+
+/// Whether a name is a word of the rule language, which names no variable.
+pub fn is_reserved(name: &Name) -> bool
+    ensures { result ≡ is_reserved name.now }
+{
+    let name = name.as_bytes();
+    is_word(name, "and")
+        || is_word(name, "or")
+        || is_word(name, "not")
+        || is_word(name, "in")
+        || is_word(name, "same")
+        || is_word(name, "atmost")
+        || is_word(name, "table")
+}
+
+fn is_word(name: &[u8], word: &str) -> bool
+    ensures { result ≡ same_spelling name.now word.now }
+{
+    name == word.as_bytes()
+}
+
+fn has_variable(variables: &[Variable], variable: u32) -> bool
+    ensures { result ≡ has_variable variables.now variable }
+{
+    (variable as usize) < variables.len()
+}
+
+fn has_value(variables: &[Variable], variable: u32, value: u32) -> bool
+    ensures { result ≡ has_value variables.now variable value }
+{
+    value_name(variables, variable, value).is_some()
+}
+
+fn are_values(variables: &[Variable], these: &[u32], row: &[u32]) -> bool
+    ensures { result ≡ list_all (λ p. has_value variables.now p.0 p.1) (zip these.now row.now) }
+{
+    these.iter().zip(row).all(|(variable, value)| has_value(variables, *variable, *value))
+}
+
+fn is_row(variables: &[Variable], these: &[u32], row: &[u32]) -> bool
+    ensures { result ≡ is_row variables.now these.now row.now }
+{
+    row.len() == these.len() && are_values(variables, these, row)
+}
+
+fn are_rows(variables: &[Variable], these: &[u32], rows: &[Sequence<u32>]) -> bool
+    ensures { result ≡ list_all (is_row variables.now these.now) rows.now }
+{
+    rows.iter()
+        .all(|row| is_row(variables, these, row.as_slice()))
+}
+
+fn has_values(variables: &[Variable], variable: u32, values: &[u32]) -> bool
+    ensures { result ≡ list_all (has_value variables.now variable) values.now }
+{
+    values
+        .iter()
+        .all(|value| has_value(variables, variable, *value))
+}
+
+fn has_variables(variables: &[Variable], these: &[u32]) -> bool
+    ensures { result ≡ list_all (has_variable variables.now) these.now }
+{
+    these
+        .iter()
+        .all(|variable| has_variable(variables, *variable))
+}
+
+fn is_one_of(variables: &[Variable], variable: u32, values: &[u32]) -> bool
+    ensures { result ≡ is_spelled_step variables.now (OneOf variable values.now) }
+{
+    values.len() >= 1 && has_values(variables, variable, values) && all_differ(values)
+}
+
+fn is_table(variables: &[Variable], these: &[u32], rows: &[Sequence<u32>]) -> bool
+    ensures { result ≡ is_spelled_step variables.now (Table these.now rows.now) }
+{
+    these.len() >= 1
+        && has_variables(variables, these)
+        && all_differ(these)
+        && rows.len() >= 1
+        && are_rows(variables, these, rows)
+}
+
+#[cycle(spelling)]
+fn is_spelled(variables: &[Variable], rule: &Rule) -> bool
+    ensures { result ≡ is_spelled variables.now rule.now }
+{
+    match rule {
+        Rule::Is { variable, value } => has_value(variables, *variable, *value),
+        Rule::IsNot { variable, value } => has_value(variables, *variable, *value),
+        Rule::OneOf { variable, values } => is_one_of(variables, *variable, values.as_slice()),
+        Rule::Not(inner) => is_spelled(variables, inner.get()),
+        Rule::And(members) => is_chain(variables, members.as_slice()),
+        Rule::Or(members) => is_chain(variables, members.as_slice()),
+        Rule::Implies(premise, consequence) => {
+            is_spelled(variables, premise.get()) && is_spelled(variables, consequence.get())
+        }
+        Rule::Same(variable, other) => {
+            has_variable(variables, *variable) && has_variable(variables, *other)
+        }
+        Rule::AtMost { most, members } => is_at_most(variables, *most, members.as_slice()),
+        Rule::Table {
+            variables: these,
+            rows,
+        } => is_table(variables, these.as_slice(), rows.as_slice()),
+    }
+}
+
+#[cycle(spelling)]
+fn is_chain(variables: &[Variable], rules: &[Rule]) -> bool
+    ensures { result ≡ (nat_le 2 (length rules.now) && list_all (is_spelled variables.now) rules.now) }
+{
+    rules.len() >= 2 && all_spelled(variables, rules)
+}
+
+#[cycle(spelling)]
+fn is_at_most(variables: &[Variable], most: u32, rules: &[Rule]) -> bool
+    ensures { result ≡ (nat_le most 64 && nat_le 1 (length rules.now) && nat_le (length rules.now) 64 && list_all (is_spelled variables.now) rules.now) }
+{
+    most <= 64 && rules.len() >= 1 && rules.len() <= 64 && all_spelled(variables, rules)
+}
+
+#[cycle(spelling)]
+fn all_spelled(variables: &[Variable], rules: &[Rule]) -> bool
+    ensures { result ≡ list_all (is_spelled variables.now) rules.now }
+{
+    for rule in rules {
+        if !is_spelled(variables, rule) {
+            return false;
+        }
+    }
+    true
+}

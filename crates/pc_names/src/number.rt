@@ -1,0 +1,48 @@
+//! Integers in decimal.
+
+ghost use Rattle.std.specs.Prelude.{◌≡◌, ℤ, ◌↔◌, Some, IfSome, IsTrue, FitsSigned};
+ghost use Rattle.std.specs.Int.{w64};
+ghost use Rattle.std.specs.Fmt.{signed_decimal};
+
+use itoa::Buffer;
+
+/// The bytes of the longest spelling, that of the least number.
+const LONGEST: usize = 20;
+
+/// The number of 64 bits that the bytes spell in canonical decimal: digits with no leading zero, and `-` before
+/// those of a negative number.
+pub fn read_int(bytes: &[u8]) -> Option<i64>
+    ensures read { (z : ℤ) → FitsSigned w64 z → bytes.now ≡ signed_decimal z → result ≡ Some z }
+    ensures spelt { IfSome result (λ z. bytes.now ≡ signed_decimal z) }
+{
+    match only_candidate(bytes) {
+        Some(number) if spells(number, bytes) => Some(number),
+        _ => None,
+    }
+}
+
+/// The one number whose spelling the bytes can be, where there is one.
+fn only_candidate(bytes: &[u8]) -> Option<i64>
+    ensures { (z : ℤ) → FitsSigned w64 z → bytes.now ≡ signed_decimal z → result ≡ Some z }
+{
+    if bytes.len() > LONGEST {
+        return None;
+    }
+    let Ok(text) = str::from_utf8(bytes) else {
+        return None;
+    };
+    text.parse().ok()
+}
+
+/// Whether the bytes are the spelling of the number.
+fn spells(number: i64, bytes: &[u8]) -> bool
+    ensures { IsTrue result ↔ (bytes.now ≡ signed_decimal number) }
+{
+    let mut buffer = Buffer::new();
+    buffer.format(number).as_bytes() == bytes
+}
+
+/// No two numbers have one spelling.
+pub fn spelling_tells_number(first: i64, second: i64)
+    ensures { signed_decimal first ≡ signed_decimal second → first ≡ second }
+{}
