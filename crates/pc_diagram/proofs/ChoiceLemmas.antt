@@ -1,12 +1,9 @@
 -- Choices stay distinct where one of another variable is added, and where some are taken out.
-use Rattle.std.proofs.Common.{◌≡◌, ℕ, Bool, true, false, not, ◌&&◌, cond, ◌==◌, List, [], ◌∷◌, ◌++◌, filter, IsTrue, refl, arith, rules}
-use Rattle.std.specs.List.{list_any}
-use Rattle.std.proofs.lemmas.Grind.{common_steps}
-use Rattle.std.proofs.lemmas.List.Folds.{list_any-append}
+use Rattle.std.proofs.Common.{◌≡◌, ℕ, Bool, true, false, not, ◌||◌, cond, ◌==◌, List, [], ◌∷◌, ◌++◌, filter, find, is_some, option_map, Some, IsTrue, refl, arith}
 use Rattle.std.proofs.lemmas.Bool.{and_parts, and_from, or_parts, or_from, not-true, not_from_false}
 use Rattle.std.proofs.lemmas.Bool.Decides.{nat_tests}
 use Rattle.pc_diagram.specs.declared.choice.Choice.{Choice}
-use Rattle.pc_diagram.specs.Choices.{is_chosen, without, are_distinct}
+use Rattle.pc_diagram.specs.Choices.{is_chosen, value_of, are_distinct}
 
 eq_comm : (m n : ℕ) → (m == n) ≡ (n == m)
 eq_comm m n = grind (arith, nat_tests)
@@ -43,3 +40,13 @@ are_distinct-filter keeps (b ∷ cs) d =
     let tail = are_distinct-filter keeps cs q.1 in
     elim (keeps b) as (λ t. are_distinct (cond t (b ∷ filter keeps cs) (filter keeps cs)) ≡ true)
     [ true ↦ and_from _ _ (not_from_false _ free) tail | false ↦ tail ]
+
+-- a variable is chosen where a value is chosen for it
+pub is_some-value_of : (cs : List Choice) (variable : ℕ) → is_some (value_of cs variable) ≡ is_chosen cs variable
+is_some-value_of [] variable = refl
+is_some-value_of (c ∷ cs) variable =
+    elim (c.variable == variable) as (λ b. is_some (option_map (λ (d : Choice). d.value) (cond b (Some c) (find (λ d. d.variable == variable) cs))) ≡ (b || is_chosen cs variable))
+    [ true ↦ refl | false ↦ is_some-value_of cs variable ]
+
+-- for a call that adds a choice
+pub ruleset distinct_steps = (are_distinct-push)

@@ -1,1 +1,6 @@
+pub mod CheaperOrder
 pub mod ChoiceLemmas
+pub mod CostLemmas
+pub mod FirstBest
+pub mod ListingLemmas
+pub mod PricedLemmas

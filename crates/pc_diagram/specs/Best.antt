@@ -3,22 +3,29 @@ use Rattle.std.specs.Prelude.{◌≡◌, ℕ, List, [], ◌∷◌, ◌++◌, Opt
 use Rattle.pc_diagram.specs.declared.costs.CostPair.{CostPair}
 use Rattle.pc_diagram.specs.Costs.{cost_pair, is_cheaper}
 
--- the earlier of two words, unless the later one is cheaper; the other where there is only one
-abbrev pub first_unless_cheaper : List (List CostPair) → Option (List ℕ) → Option (List ℕ) → Option (List ℕ)
-first_unless_cheaper costs None later = later
-first_unless_cheaper costs (Some word) None = Some word
-first_unless_cheaper costs (Some word) (Some later) =
-    if is_cheaper (cost_pair costs later) (cost_pair costs word) then Some later else Some word
+-- the earlier of two, unless the later one beats it; the other where one is missing
+abbrev pub earlier_unless : {X : Type 0} → (X → X → Bool) → Option X → Option X → Option X
+earlier_unless beats None later = later
+earlier_unless beats (Some x) None = Some x
+earlier_unless beats (Some x) (Some later) = if beats later x then Some later else Some x
+
+-- the first of the members that none beats
+abbrev pub first_best : {X : Type 0} → (X → X → Bool) → List X → Option X
+first_best beats [] = None
+first_best beats (x ∷ xs) = earlier_unless beats (Some x) (first_best beats xs)
+
+-- one word is cheaper than another: less by first cost, or equal in that and less by second cost
+abbrev pub is_cheaper_word : List (List CostPair) → List ℕ → List ℕ → Bool
+is_cheaper_word costs word other = is_cheaper (cost_pair costs word) (cost_pair costs other)
 
 -- the member that is least by first cost, then by second cost, then by place
 abbrev pub best : List (List CostPair) → List (List ℕ) → Option (List ℕ)
-best costs [] = None
-best costs (word ∷ words) = first_unless_cheaper costs (Some word) (best costs words)
+best costs words = first_best (is_cheaper_word costs) words
 
--- a member that is cheaper than each before it and than which none after it is cheaper
-pub record IsFirstOfCheapest (costs : List (List CostPair)) (words : List (List ℕ)) (word : List ℕ) : Type 0 where
-  pub before : List (List ℕ)
-  pub after : List (List ℕ)
-  pub stands : words ≡ before ++ word ∷ after
-  pub beats_before : All (λ other. is_cheaper (cost_pair costs word) (cost_pair costs other) ≡ true) before
-  pub unbeaten_after : All (λ other. is_cheaper (cost_pair costs other) (cost_pair costs word) ≡ false) after
+-- a member that beats each before it, and that none after it beats
+pub record IsFirstUnbeaten {X : Type 0} (beats : X → X → Bool) (xs : List X) (x : X) : Type 0 where
+  pub before : List X
+  pub after : List X
+  pub stands : xs ≡ before ++ x ∷ after
+  pub beats_before : All (λ other. beats x other ≡ true) before
+  pub unbeaten_after : All (λ other. beats other x ≡ false) after

@@ -1,6 +1,7 @@
 -- A worked example: a bike with a frame, a wheel and a light, each with a price and days to wait.
-use Rattle.std.specs.Prelude.{ℕ, pos, List, [], ◌∷◌, Option, Some, None}
+use Rattle.std.specs.Prelude.{ℕ, pos, List, [], ◌∷◌, Some, None}
 use Rattle.pc_diagram.specs.declared.bounds.Bounds.{Bounds}
+use Rattle.pc_diagram.specs.declared.choice.Choice.{Choice}
 use Rattle.pc_diagram.specs.declared.costs.CostPair.{CostPair}
 use Rattle.pc_diagram.specs.declared.listed.Listed.{Listed}
 
@@ -44,4 +45,16 @@ two_days_listing =
     (line 1 580 2 (three 1 0 0) ∷ [])
     ∷ (line 0 580 2 (three 1 0 0) ∷ line 1 620 2 (three 1 1 0) ∷ [])
     ∷ (line 0 580 2 (three 1 0 0) ∷ [])
+    ∷ []
+
+-- the second frame is chosen
+abbrev pub alloy : Choice
+alloy = record { variable = 0; value = 1 }
+
+-- what is listed once it is
+abbrev pub alloy_listing : List (List Listed)
+alloy_listing =
+    (line 1 580 2 (three 1 0 0) ∷ [])
+    ∷ (line 0 580 2 (three 1 0 0) ∷ line 1 620 2 (three 1 1 0) ∷ [])
+    ∷ (line 0 580 2 (three 1 0 0) ∷ line 1 620 3 (three 1 0 1) ∷ [])
     ∷ []

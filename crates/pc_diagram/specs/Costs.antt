@@ -1,5 +1,5 @@
 -- What values and words cost.
-use Rattle.std.specs.Prelude.{ℕ, ◌≤◌, ℤ, pos, neg_ℤ, ◌+ℤ◌, ◌≤ℤ◌, List, [], ◌∷◌, length, slice_get, unwrap_or, All, Bool, ◌||◌, ◌&&◌, not, int_lt}
+use Rattle.std.specs.Prelude.{ℕ, ◌≤◌, ℤ, pos, neg_ℤ, ◌+ℤ◌, ◌≤ℤ◌, List, [], ◌∷◌, length, slice_get, Option, Some, None, unwrap_or, All, Bool, ◌||◌, ◌&&◌, not, int_lt}
 use Rattle.pc_diagram.specs.declared.costs.CostPair.{CostPair}
 use Rattle.pc_diagram.specs.declared.which.Which.{Which}
 use Rattle.pc_diagram.specs.declared.which.Which.TheVariants.{First, Second}
@@ -16,6 +16,11 @@ no_cost = record { first = pos 0; second = pos 0 }
 -- the pair of a value in the row of its variable; nothing where the row has no such value
 abbrev pub pair_at : List CostPair → ℕ → CostPair
 pair_at row value = unwrap_or (slice_get row value) no_cost
+
+-- one part of the pair of the value that is taken, and nothing where none is
+abbrev pub part_taken : List CostPair → Which → Option ℕ → ℤ
+part_taken row which None = pos 0
+part_taken row which (Some value) = part which (pair_at row value)
 
 -- the cost of a word: the sum, over the variables, of one part of the pair of the value taken
 abbrev pub cost : List (List CostPair) → Which → List ℕ → ℤ
@@ -44,3 +49,7 @@ pub record IsPricePair (pair : CostPair) : Type 0 where
 pub record IsPriced (costs : List (List CostPair)) : Type 0 where
   pub few : length costs ≤ 64
   pub in_range : All (All IsPricePair) costs
+
+-- a sum of such costs, from -64,000,000,000 to 64,000,000,000
+abbrev pub IsSum : ℤ → Type 0
+IsSum z = (neg_ℤ (pos 64000000000) ≤ℤ z) × (z ≤ℤ pos 64000000000)

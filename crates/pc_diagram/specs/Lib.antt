@@ -5,3 +5,4 @@ pub mod Choices
 pub mod Costs
 pub mod Fitting
 pub mod Listing
+pub mod Priced

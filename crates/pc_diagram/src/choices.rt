@@ -61,6 +61,7 @@ impl Choices {
 
     /// Chooses a value for a variable that isn't chosen. The choice goes to the end. Want of memory leaves the
     /// choices as they were.
+    #[tactic(auto, using(crate::proofs::ChoiceLemmas::distinct_steps))]
     pub fn choose(&mut self, variable: u32, value: u32) -> Result<(), NoMemory>
         requires { is_chosen self.old variable ≡ false }
         ensures ok { OnOk result (self.new ≡ self.old ++ record { variable = variable; value = value } ∷ []) }

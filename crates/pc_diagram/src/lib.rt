@@ -4,21 +4,36 @@
 #![tactic(auto)]
 
 mod bounds;
+mod cheapest;
 mod choice;
 mod choices;
+mod costing;
 mod costs;
 mod laws;
 mod listed;
+mod matching;
+mod priced;
 mod side;
+mod valid_values;
 mod which;
 mod word;
 
 pub use bounds::Bounds;
+pub use cheapest::best;
 pub use choice::Choice;
 pub use choices::Choices;
+pub use costing::{cost, cost_pair, is_priced};
 pub use costs::{CostPair, Costs};
-pub use laws::bikes_are_listed;
+pub use laws::{
+    best_is_the_first_unbeaten, bikes_are_listed, chosen_has_a_value, listing_has_the_valid_values,
+    sums_are_small,
+};
 pub use listed::{Listed, Listing};
+pub use matching::{extends, fitting, within};
 pub use side::Side;
+pub use valid_values::listing;
 pub use which::Which;
 pub use word::Word;
+
+#[cfg(test)]
+mod tests;

@@ -3,7 +3,6 @@ use Rattle.std.proofs.Common.{◌≡◌, ℕ, List, [], ◌∷◌, Bool, ◌||�
 use Rattle.std.specs.List.{list_all, list_any}
 use Rattle.std.proofs.lemmas.List.{length-map}
 use Rattle.std.proofs.lemmas.List.Folds.{list_all-map, fold-map}
-use Rattle.sqlite_items.specs.declared.items.Items.{Items}
 use Rattle.pc_file.specs.declared.variable.Variable.{Variable}
 use Rattle.pc_file.specs.declared.rule.Rule.{Rule, Rule-F, fold-roll-Rule}
 use Rattle.pc_file.specs.declared.rule.Rule.TheVariants.{And, Or, AtMost, rolls-And, rolls-Or, rolls-AtMost}

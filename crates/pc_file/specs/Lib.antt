@@ -4,3 +4,6 @@ pub mod Names
 pub mod Rule
 pub mod Nesting
 pub mod Limits
+pub mod Products
+pub mod Costs
+pub mod ListingText

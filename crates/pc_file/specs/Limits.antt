@@ -1,5 +1,5 @@
 -- Which costs, variables and rules make a file.
-use Rattle.std.specs.Prelude.{◌≡◌, ℕ, ℤ, pos, neg_ℤ, int_le, ◌≤◌, nat_le, ◌==◌, ◌+◌, Bool, true, not, ◌&&◌, ◌||◌, List, [], ◌∷◌, length, map, codes, is_some, IsTrue}
+use Rattle.std.specs.Prelude.{◌≡◌, ℕ, ℤ, pos, neg_ℤ, int_le, ◌≤◌, nat_le, ◌==◌, ◌+◌, Bool, true, not, ◌&&◌, ◌||◌, List, [], ◌∷◌, length, map, codes, is_some}
 use Rattle.std.specs.List.{list_all, list_any, zip}
 use Rattle.std.specs.Ordering.{int_eq}
 use Rattle.pc_file.specs.Spelling.{same_spelling}
@@ -10,7 +10,7 @@ use Rattle.pc_file.specs.declared.rule.Rule.{Rule}
 use Rattle.pc_file.specs.declared.rule.Rule.TheOpen.{Rule-F, Is, IsNot, OneOf, Not, And, Or, Implies, Same, AtMost, Table}
 use Rattle.pc_file.specs.declared.rule.Rule.TheFolds.{fold-Rule}
 use Rattle.pc_file.specs.Names.{value_name}
-use Rattle.pc_file.specs.Nesting.{Nesting, nesting, open_in_place}
+use Rattle.pc_file.specs.Nesting.{nesting}
 
 -- what a file says: its costs, its variables with their values, and its rules
 pub record Contents : Type 0 where
@@ -33,11 +33,28 @@ is_cost cost = int_le (neg_ℤ (pos 1000000000)) cost && int_le cost (pos 100000
 abbrev pub is_value : ℕ → Value → Bool
 is_value costs value = is_cost value.first && is_cost value.second && (costs == 2 || int_eq value.second (pos 0))
 
+-- a variable has 1 to 64 values
+abbrev pub is_sized : Variable → Bool
+is_sized variable = nat_le 1 (length variable.values) && nat_le (length variable.values) 64
+
 -- the name and the values of a variable in a file of so many costs
 abbrev pub is_variable : ℕ → Variable → Bool
-is_variable costs variable =
-    not (is_reserved variable.name) && nat_le 1 (length variable.values) && nat_le (length variable.values) 64
-    && all_differ same_spelling (map (λ value. value.name) variable.values) && list_all (is_value costs) variable.values
+is_variable costs variable = not (is_reserved variable.name) && is_sized variable && list_all (is_value costs) variable.values
+
+-- the names of a variable's values
+abbrev pub value_names : Variable → List (List ℕ)
+value_names variable = map (λ value. value.name) variable.values
+
+abbrev pub variable_names : List Variable → List (List ℕ)
+variable_names variables = map (λ variable. variable.name) variables
+
+-- no two values of one variable have one name
+abbrev pub values_differ : Variable → Bool
+values_differ variable = all_differ same_spelling (value_names variable)
+
+-- no two variables have one name, and no two values of one variable
+abbrev pub names_differ : List Variable → Bool
+names_differ variables = all_differ same_spelling (variable_names variables) && list_all values_differ variables
 
 abbrev pub has_variable : List Variable → ℕ → Bool
 has_variable variables variable = nat_le (variable + 1) (length variables)
@@ -80,7 +97,7 @@ pub record IsFile (file : Contents) : Type 0 where
   pub costs_differ : all_differ same_spelling file.costs ≡ true
   pub some_variable : 1 ≤ length file.variables
   pub variables_at_most : length file.variables ≤ 64
-  pub variables_differ : all_differ same_spelling (map (λ variable. variable.name) file.variables) ≡ true
+  pub names_differ : names_differ file.variables ≡ true
   pub each_variable : list_all (is_variable (length file.costs)) file.variables ≡ true
   pub rules_at_most : length file.rules ≤ 1024
   pub each_rule : list_all (is_rule file.variables) file.rules ≡ true

@@ -1,5 +1,5 @@
 -- The parentheses of a rule's printed form. A member is put in parentheses where it binds less than its place asks.
-use Rattle.std.specs.Prelude.{ℕ, ◌+◌, Bool, nat_lt, if◌then◌else◌, max, List, map, fold}
+use Rattle.std.specs.Prelude.{ℕ, ◌+◌, nat_lt, if◌then◌else◌, max, List, map, fold}
 use Rattle.pc_file.specs.declared.rule.Rule.{Rule}
 use Rattle.pc_file.specs.declared.rule.Rule.TheOpen.{Rule-F, Is, IsNot, OneOf, Not, And, Or, Implies, Same, AtMost, Table}
 use Rattle.pc_file.specs.declared.rule.Rule.TheFolds.{fold-Rule}

@@ -97,7 +97,7 @@ fn rule_holds(variables: &[Variable], word: &[u32], rule: &Rule) -> bool
 }
 
 #[cycle(holding)]
-fn all_hold(variables: &[Variable], word: &[u32], rules: &[Rule]) -> bool
+pub fn all_hold(variables: &[Variable], word: &[u32], rules: &[Rule]) -> bool
     ensures { result ≡ list_all (holds variables.now word.now) rules.now }
 {
     for rule in rules {

@@ -3,13 +3,14 @@
 ghost use Rattle.std.specs.Prelude.{◌≡◌, nat_le, ◌==◌, ◌&&◌, length, map, is_some};
 ghost use Rattle.std.specs.List.{list_all, list_any, zip};
 ghost use Rattle.pc_base.specs.Distinct.{all_differ};
-ghost use Rattle.pc_file.specs.Limits.{is_reserved, is_cost, is_value, is_variable, has_variable, has_value, is_row, is_spelled, is_shallow, is_rule};
+ghost use Rattle.pc_file.specs.Limits.{is_reserved, is_cost, is_value, is_sized, is_variable, has_variable, has_value, is_row, is_spelled, is_shallow, is_rule};
 ghost use Rattle.pc_file.specs.Spelling.{same_spelling};
 ghost use Rattle.pc_file.specs.Limits.{is_spelled_step};
 ghost use Rattle.pc_file.specs.declared.rule.Rule.TheOpen.{OneOf, Table};
 ghost use Rattle.pc_file.specs.Nesting.{nesting, open_in_place, open_in_places};
 
 use crate::holds::value_name;
+use crate::nesting::opens_at_most;
 use crate::rule::Rule;
 use crate::variable::{Value, Variable};
 use pc_base::{Sequence, all_differ};
@@ -49,6 +50,48 @@ fn is_word(name: &[u8], word: &str) -> bool
     name == word.as_bytes()
 }
 
+/// Whether the name and the values of a variable keep their limits in a file of so many costs.
+fn is_variable(costs: usize, variable: &Variable) -> bool
+    ensures { result ≡ is_variable costs variable.now }
+{
+    !is_reserved(&variable.name)
+        && is_sized(variable)
+        && are_values(costs, variable.values.as_slice())
+}
+
+fn is_sized(variable: &Variable) -> bool
+    ensures { result ≡ is_sized variable.now }
+{
+    variable.values.len() >= 1 && variable.values.len() <= 64
+}
+
+fn are_values(costs: usize, values: &[Value]) -> bool
+    ensures { result ≡ list_all (is_value costs) values.now }
+{
+    values.iter().all(|value| is_value(costs, value))
+}
+
+pub fn are_variables(costs: usize, variables: &[Variable]) -> bool
+    ensures { result ≡ list_all (is_variable costs) variables.now }
+{
+    variables
+        .iter()
+        .all(|variable| is_variable(costs, variable))
+}
+
+/// Whether a rule can be spelled, names only what is there and opens at most 64 parentheses at once.
+fn is_rule(variables: &[Variable], rule: &Rule) -> bool
+    ensures { result ≡ is_rule variables.now rule.now }
+{
+    is_spelled(variables, rule) && opens_at_most(rule, 64)
+}
+
+pub fn are_rules(variables: &[Variable], rules: &[Rule]) -> bool
+    ensures { result ≡ list_all (is_rule variables.now) rules.now }
+{
+    rules.iter().all(|rule| is_rule(variables, rule))
+}
+
 fn has_variable(variables: &[Variable], variable: u32) -> bool
     ensures { result ≡ has_variable variables.now variable }
 {
@@ -61,7 +104,7 @@ fn has_value(variables: &[Variable], variable: u32, value: u32) -> bool
     value_name(variables, variable, value).is_some()
 }
 
-fn are_values(variables: &[Variable], these: &[u32], row: &[u32]) -> bool
+fn row_has_values(variables: &[Variable], these: &[u32], row: &[u32]) -> bool
     ensures { result ≡ list_all (λ p. has_value variables.now p.0 p.1) (zip these.now row.now) }
 {
     these.iter().zip(row).all(|(variable, value)| has_value(variables, *variable, *value))
@@ -70,7 +113,7 @@ fn are_values(variables: &[Variable], these: &[u32], row: &[u32]) -> bool
 fn is_row(variables: &[Variable], these: &[u32], row: &[u32]) -> bool
     ensures { result ≡ is_row variables.now these.now row.now }
 {
-    row.len() == these.len() && are_values(variables, these, row)
+    row.len() == these.len() && row_has_values(variables, these, row)
 }
 
 fn are_rows(variables: &[Variable], these: &[u32], rows: &[Sequence<u32>]) -> bool

@@ -1,8 +1,7 @@
-use Rattle.std.proofs.Common.{◌≡◌, ◌<◌, ◌++◌, ◌∷◌, [], Bool, true, false, not, cond, length, take, refl, sym, ap, ◌∙◌, arith}
+use Rattle.std.proofs.Common.{◌≡◌, ◌<◌, ◌++◌, ◌∷◌, [], true, false, cond, length, take, sym, ap, ◌∙◌, arith}
 use Rattle.std.specs.List.{list_any}
 use Rattle.std.proofs.lemmas.Bool.{not-false, not-true}
 use Rattle.std.proofs.lemmas.List.{take_more}
-use Rattle.pc_base.specs.Distinct.{all_differ}
 use Rattle.pc_file.specs.Spelling.{same_spelling}
 use Rattle.pc_file.proofs.NamesLemmas.{differ_more, differ_no_more}
 use Rattle.pc_file.proofs.names.Names.of.Goals as goal

@@ -1,0 +1,12 @@
+use Rattle.std.proofs.Common.{◌≡◌, length, ap, sym, subst, ◌∙◌}
+use Rattle.pc_diagram.specs.Costs.{IsPriced}
+use Rattle.pc_file.specs.Costs.{costs_of}
+use Rattle.pc_file.proofs.CostLemmas.{priced}
+use Rattle.pc_file.proofs.listing.plain_listing.Goals as goal
+
+pub listing-requires : goal.listing-requires
+listing-requires c =
+    let file = c.args.file.now in
+    let limits = c.variables.ensures.limits in
+    let made : c.in_ok-costs.costs ≡ costs_of file.variables = c.in_ok-costs.ensures ∙ ap costs_of c.variables.ensures.variables in
+    subst IsPriced (sym made) (priced (length file.costs) file.variables limits.variables_at_most limits.each_variable)

@@ -1,0 +1,132 @@
+//! A product file.
+
+ghost use Rattle.std.specs.Prelude.{◌≡◌, ◌≤◌, ◌↔◌, length, IsTrue, IfOk, IsErrOf};
+ghost use Rattle.pc_base.specs.Distinct.{all_differ};
+ghost use Rattle.pc_file.specs.Spelling.{same_spelling};
+ghost use Rattle.pc_file.specs.Limits.{IsFile};
+ghost use Rattle.pc_file.specs.Catalogue.{variable_position, value_position};
+
+use crate::catalogue::Catalogue;
+use crate::limits::{are_rules, are_variables};
+use crate::names::Names;
+use crate::rule::Rule;
+use crate::variable::Variable;
+use pc_base::{NoMemory, Sequence};
+use pc_names::Name;
+use std::alloc::Global;
+use std::marker::Model;
+use thiserror::Error;
+
+/// Why costs, variables and rules make no file.
+#[derive(Clone, Copy, Debug, PartialEq, Eq, Error)]
+pub enum FileFault {
+    #[error("a limit of product files is broken")]
+    Limit,
+    #[error("out of memory")]
+    NoMemory,
+}
+
+impl From<NoMemory> for FileFault {
+    ghost use Rattle.std.specs.Prelude.{◌≡◌};
+    ghost use Rattle.pc_file.specs.declared.file.FileFault.TheVariants.{NoMemory};
+
+    ghost from_gives = { λ _ e. e ≡ NoMemory };
+
+    fn from(_error: NoMemory) -> FileFault {
+        FileFault::NoMemory
+    }
+}
+
+/// A product: the names of its one or two costs, its 1 to 64 variables and its at most 1,024 rules. It keeps all
+/// limits, and finds positions by names.
+#[derive(Debug, Drop)]
+pub struct File {
+    costs: Sequence<Name>,
+    variables: Sequence<Variable>,
+    rules: Sequence<Rule>,
+    names: Catalogue,
+}
+
+impl Model for File {
+    ghost use Rattle.pc_file.specs.Limits.{Contents, IsFile};
+    ghost use Rattle.pc_file.specs.Catalogue.{Indexes};
+    ghost use Rattle.pc_file.specs.contracts.rule.Rule as rule;
+    ghost use Rattle.std.specs.Coded.{codes};
+
+    ghost Value = { Contents };
+
+    ghost coded = { Prim.hlevel (codes, rule.the_row.coded) };
+
+    ghost view = { λ f. record { costs = f.costs; variables = f.variables; rules = f.rules } };
+
+    ghost invariant = { λ f. IsFile (record { costs = f.costs; variables = f.variables; rules = f.rules }) × Indexes f.names f.variables };
+}
+
+impl File {
+    /// The file of these costs, variables and rules, in order.
+    pub fn new(
+        alloc: Global,
+        costs: Sequence<Name>,
+        variables: Sequence<Variable>,
+        rules: Sequence<Rule>,
+    ) -> Result<File, FileFault>
+        ensures file { IfOk result (λ file. file ≡ record { costs = costs; variables = variables; rules = rules }) }
+        ensures limits { IfOk result IsFile }
+        ensures limit { IsErrOf result FileFault.Limit → ¬ IsFile (record { costs = costs; variables = variables; rules = rules }) }
+    {
+        if !has_right_counts(costs.len(), variables.len(), rules.len())
+            || !are_variables(costs.len(), variables.as_slice())
+            || !are_rules(variables.as_slice(), rules.as_slice())
+            || !names_differ(alloc, costs.as_slice())?
+        {
+            return Err(FileFault::Limit);
+        }
+        let Some(names) = Catalogue::of(alloc, variables.as_slice())? else {
+            return Err(FileFault::Limit);
+        };
+        Ok(File {
+            costs,
+            variables,
+            rules,
+            names,
+        })
+    }
+
+    /// The names of the costs.
+    pub fn costs(&self) -> &[Name]
+        ensures costs { result.now ≡ self.now.costs }
+        ensures limits { IsFile self.now }
+    {
+        self.costs.as_slice()
+    }
+
+    /// The variables, in order.
+    pub fn variables(&self) -> &[Variable]
+        ensures variables { result.now ≡ self.now.variables }
+        ensures limits { IsFile self.now }
+    {
+        self.variables.as_slice()
+    }
+
+    /// The rules, in order.
+    pub fn rules(&self) -> &[Rule]
+        ensures rules { result.now ≡ self.now.rules }
+        ensures limits { IsFile self.now }
+    {
+        self.rules.as_slice()
+    }
+}
+
+/// Whether so many costs, variables and rules keep the limits.
+fn has_right_counts(costs: usize, variables: usize, rules: usize) -> bool
+    ensures { IsTrue result ↔ ((1 ≤ costs) × (costs ≤ 2) × (1 ≤ variables) × (variables ≤ 64) × (rules ≤ 1024)) }
+{
+    1 <= costs && costs <= 2 && 1 <= variables && variables <= 64 && rules <= 1024
+}
+
+/// Whether no name stands twice.
+fn names_differ(alloc: Global, names: &[Name]) -> Result<bool, NoMemory>
+    ensures { IfOk result (λ differ. differ ≡ all_differ same_spelling names.now) }
+{
+    Ok(Names::of(alloc, names)?.is_some())
+}
