@@ -4,3 +4,6 @@ pub mod NamesLemmas
 pub mod ProductLemmas
 pub mod CostLemmas
 pub mod ZipLemmas
+pub mod PositionLemmas
+pub mod BikeLemmas
+pub mod WordLemmas

@@ -14,7 +14,7 @@ holds-And variables word members =
     ap (holds variables word) (sym (rolls-And members)) ∙ fold-roll-Rule Bool (holds_step variables word) (Rule-F.And members)
     ∙ list_all-map (λ holds. holds) (holds variables word) members
 
-list_any-map : {X Y : Type 0} (p : X → Bool) (h : Y → X) (ys : List Y) → list_any p (map h ys) ≡ list_any (λ y. p (h y)) ys
+pub list_any-map : {X Y : Type 0} (p : X → Bool) (h : Y → X) (ys : List Y) → list_any p (map h ys) ≡ list_any (λ y. p (h y)) ys
 list_any-map p h [] = refl
 list_any-map p h (y ∷ ys) = ap (λ b. p (h y) || b) (list_any-map p h ys)
 

@@ -4,6 +4,9 @@ pub mod Names
 pub mod Rule
 pub mod Nesting
 pub mod Limits
+pub mod Positions
+pub mod Words
 pub mod Products
 pub mod Costs
 pub mod ListingText
+pub mod Bike

@@ -1,10 +1,10 @@
 //! A product file.
 
-ghost use Rattle.std.specs.Prelude.{◌≡◌, ◌≤◌, ◌↔◌, length, IsTrue, IfOk, IsErrOf};
+ghost use Rattle.std.specs.Prelude.{◌≡◌, ◌≤◌, ◌↔◌, length, position, IsTrue, IfOk, IsErrOf};
 ghost use Rattle.pc_base.specs.Distinct.{all_differ};
 ghost use Rattle.pc_file.specs.Spelling.{same_spelling};
 ghost use Rattle.pc_file.specs.Limits.{IsFile};
-ghost use Rattle.pc_file.specs.Catalogue.{variable_position, value_position};
+ghost use Rattle.pc_file.specs.Positions.{variable_named, value_named, cost_at, cost_named};
 
 use crate::catalogue::Catalogue;
 use crate::limits::{are_rules, are_variables};
@@ -12,6 +12,7 @@ use crate::names::Names;
 use crate::rule::Rule;
 use crate::variable::Variable;
 use pc_base::{NoMemory, Sequence};
+use pc_diagram::Which;
 use pc_names::Name;
 use std::alloc::Global;
 use std::marker::Model;
@@ -115,6 +116,46 @@ impl File {
     {
         self.rules.as_slice()
     }
+
+    /// The position of the variable of this name, counted from 0.
+    pub fn variable(&self, name: &Name) -> Option<u32>
+        ensures { result ≡ variable_named self.now name.now }
+    {
+        let position = self.names.variable(name)?;
+        Some(position as u32)
+    }
+
+    /// The position, counted from 0, of the value of this name among those of the variable at a position.
+    pub fn value(&self, variable: u32, name: &Name) -> Option<u32>
+        ensures { result ≡ value_named self.now variable name.now }
+    {
+        let position = self.names.value(variable as usize, name)?;
+        Some(position as u32)
+    }
+
+    /// Which of the costs has this name.
+    pub fn cost(&self, name: &Name) -> Option<Which>
+        ensures { result ≡ cost_named self.now name.now }
+    {
+        Some(cost_at(position(self.costs.as_slice(), name)?))
+    }
+}
+
+/// Which cost stands at a position.
+fn cost_at(position: usize) -> Which
+    ensures { result ≡ cost_at position }
+{
+    match position {
+        0 => Which::First,
+        _ => Which::Second,
+    }
+}
+
+/// The first position of a name.
+fn position(names: &[Name], name: &Name) -> Option<usize>
+    ensures { result ≡ position (same_spelling name.now) names.now }
+{
+    names.iter().position(|other| name == other)
 }
 
 /// Whether so many costs, variables and rules keep the limits.

@@ -1,9 +1,12 @@
-//! Product files.
+//! Product files: costs, variables and rules that keep all limits of a file, when a rule holds for a word, and the
+//! plain program that lists a file's products and its valid values. Its contract is the definition: the words for
+//! which every rule holds, in lexicographic order. The text of a listing stands here, for all who print one.
 #![tactic(auto)]
 
 mod catalogue;
 mod file;
-mod holds;
+mod holding;
+mod laws;
 mod limits;
 mod listing;
 mod listing_text;
@@ -15,9 +18,17 @@ mod variable;
 
 pub use catalogue::Catalogue;
 pub use file::{File, FileFault};
+pub use holding::holds;
+pub use laws::{
+    bike_has_eight_products, names_have_first_places, products_are_the_words_that_obey,
+};
+pub use limits::is_reserved;
 pub use listing::{costs_of, plain_listing};
 pub use listing_text::push_listing;
 pub use names::Names;
 pub use products::{PlainFault, has_few_words, plain_products};
 pub use rule::Rule;
 pub use variable::{Value, Variable};
+
+#[cfg(test)]
+mod tests;

@@ -9,7 +9,7 @@ ghost use Rattle.pc_file.specs.Limits.{is_spelled_step};
 ghost use Rattle.pc_file.specs.declared.rule.Rule.TheOpen.{OneOf, Table};
 ghost use Rattle.pc_file.specs.Nesting.{nesting, open_in_place, open_in_places};
 
-use crate::holds::value_name;
+use crate::holding::value_name;
 use crate::nesting::opens_at_most;
 use crate::rule::Rule;
 use crate::variable::{Value, Variable};

@@ -6,7 +6,7 @@ ghost use Rattle.pc_file.specs.Products.{obeys, value_counts, word_count, produc
 ghost use Rattle.pc_file.specs.Limits.{is_sized};
 
 use crate::file::File;
-use crate::holds::all_hold;
+use crate::holding::all_hold;
 use crate::variable::Variable;
 use pc_base::{NoMemory, Sequence};
 use pc_diagram::Word;

@@ -1,3 +1,4 @@
 pub mod NumberText
 pub mod Places
 pub mod Spellings
+pub mod Written

@@ -1,3 +1,4 @@
 pub mod Name
 pub mod Places
 pub mod Stored
+pub mod Number

@@ -3,6 +3,7 @@
 ghost use Rattle.std.specs.Prelude.{◌≡◌, ℤ, ◌↔◌, Some, IfSome, IsTrue, FitsSigned};
 ghost use Rattle.std.specs.Int.{w64};
 ghost use Rattle.std.specs.Fmt.{signed_decimal};
+ghost use Rattle.pc_names.specs.Number.{int_of};
 
 use itoa::Buffer;
 
@@ -14,6 +15,16 @@ const LONGEST: usize = 20;
 pub fn read_int(bytes: &[u8]) -> Option<i64>
     ensures read { (z : ℤ) → FitsSigned w64 z → bytes.now ≡ signed_decimal z → result ≡ Some z }
     ensures spelt { IfSome result (λ z. bytes.now ≡ signed_decimal z) }
+    ensures value { result ≡ int_of bytes.now }
+{
+    spelt_int(bytes)
+}
+
+/// The number whose spelling the bytes are.
+fn spelt_int(bytes: &[u8]) -> Option<i64>
+    ensures read { (z : ℤ) → FitsSigned w64 z → bytes.now ≡ signed_decimal z → result ≡ Some z }
+    ensures spelt { IfSome result (λ z. bytes.now ≡ signed_decimal z) }
+    ensures fits { IfSome result (λ z. FitsSigned w64 z) }
 {
     match only_candidate(bytes) {
         Some(number) if spells(number, bytes) => Some(number),

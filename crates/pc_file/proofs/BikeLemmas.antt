@@ -1,0 +1,71 @@
+-- The worked example, by evaluation.
+use Rattle.std.proofs.Common.{◌≡◌, ℕ, Bool, true, ◌&&◌, nat_le, List, [], ◌∷◌, filter, refl, sym, ap, ◌∙◌}
+use Rattle.std.specs.List.{list_all}
+use Rattle.std.proofs.lemmas.List.Elements.{filter_agree}
+use Rattle.pc_diagram.specs.Bike.{bikes}
+use Rattle.pc_file.specs.declared.rule.Rule.{Rule, Rule-F, fold-Rule, fold-roll-Rule}
+use Rattle.pc_file.specs.declared.rule.Rule.TheVariants.{Is, Not, And, Implies, rolls-Is, rolls-Not, rolls-And, rolls-Implies}
+use Rattle.pc_file.specs.Rule.{holds, holds_step}
+use Rattle.pc_file.specs.Nesting.{Nesting, nesting, nesting_step}
+use Rattle.pc_file.specs.Limits.{is_spelled_step, is_rule}
+use Rattle.pc_file.specs.Products.{all_words, value_counts, obeys, products}
+use Rattle.pc_file.specs.Bike.{bike}
+
+-- any fold of the two rules, layer by layer
+module _ (A : Type 0) (step : Rule-F A → A) where
+  at_is : (variable value : ℕ) → fold-Rule A step (Is variable value) ≡ step (Rule-F.Is variable value)
+  at_is variable value = ap (fold-Rule A step) (sym (rolls-Is variable value)) ∙ fold-roll-Rule A step (Rule-F.Is variable value)
+
+  at_first : fold-Rule A step (Implies (Is 0 2) (Is 1 1)) ≡ step (Rule-F.Implies (step (Rule-F.Is 0 2)) (step (Rule-F.Is 1 1)))
+  at_first =
+      ap (fold-Rule A step) (sym (rolls-Implies (Is 0 2) (Is 1 1))) ∙ fold-roll-Rule A step (Rule-F.Implies (Is 0 2) (Is 1 1))
+      ∙ ap (λ premise. step (Rule-F.Implies premise (fold-Rule A step (Is 1 1)))) (at_is 0 2) ∙ ap (λ consequence. step (Rule-F.Implies (step (Rule-F.Is 0 2)) consequence)) (at_is 1 1)
+
+  at_both : fold-Rule A step (And (Is 0 0 ∷ Is 2 1 ∷ [])) ≡ step (Rule-F.And (step (Rule-F.Is 0 0) ∷ step (Rule-F.Is 2 1) ∷ []))
+  at_both =
+      ap (fold-Rule A step) (sym (rolls-And (Is 0 0 ∷ Is 2 1 ∷ []))) ∙ fold-roll-Rule A step (Rule-F.And (Is 0 0 ∷ Is 2 1 ∷ []))
+      ∙ ap (λ frame. step (Rule-F.And (frame ∷ fold-Rule A step (Is 2 1) ∷ []))) (at_is 0 0) ∙ ap (λ light. step (Rule-F.And (step (Rule-F.Is 0 0) ∷ light ∷ []))) (at_is 2 1)
+
+  at_second : fold-Rule A step (Not (And (Is 0 0 ∷ Is 2 1 ∷ []))) ≡ step (Rule-F.Not (step (Rule-F.And (step (Rule-F.Is 0 0) ∷ step (Rule-F.Is 2 1) ∷ []))))
+  at_second =
+      ap (fold-Rule A step) (sym (rolls-Not (And (Is 0 0 ∷ Is 2 1 ∷ [])))) ∙ fold-roll-Rule A step (Rule-F.Not (And (Is 0 0 ∷ Is 2 1 ∷ [])))
+      ∙ ap (λ both. step (Rule-F.Not both)) at_both
+
+-- a test of both rules
+all_rules : (p : Rule → Bool) (b c : Bool) → p (Implies (Is 0 2) (Is 1 1)) ≡ b → p (Not (And (Is 0 0 ∷ Is 2 1 ∷ []))) ≡ c → list_all p bike.rules ≡ (b && (c && true))
+all_rules p b c first second = ap (λ x. x && (p (Not (And (Is 0 0 ∷ Is 2 1 ∷ []))) && true)) first ∙ ap (λ x. b && (x && true)) second
+
+-- the two rules as a test that computes
+obeyed : List ℕ → Bool
+obeyed word =
+    let step = holds_step bike.variables word in
+    step (Rule-F.Implies (step (Rule-F.Is 0 2)) (step (Rule-F.Is 1 1)))
+    && (step (Rule-F.Not (step (Rule-F.And (step (Rule-F.Is 0 0) ∷ step (Rule-F.Is 2 1) ∷ [])))) && true)
+
+obeys_is : (word : List ℕ) → obeys bike word ≡ obeyed word
+unfolding obeyed
+obeys_is word =
+    let step = holds_step bike.variables word in
+    all_rules (holds bike.variables word) (step (Rule-F.Implies (step (Rule-F.Is 0 2)) (step (Rule-F.Is 1 1)))) (step (Rule-F.Not (step (Rule-F.And (step (Rule-F.Is 0 0) ∷ step (Rule-F.Is 2 1) ∷ [])))))
+    (at_first Bool step) (at_second Bool step)
+
+kept : filter obeyed (all_words (value_counts bike.variables)) ≡ bikes
+unfolding obeyed
+kept = refl
+
+pub bike_products : products bike ≡ bikes
+bike_products = filter_agree (obeys bike) obeyed obeys_is (all_words (value_counts bike.variables)) ∙ kept
+
+shallow_first : nat_le (nesting (Implies (Is 0 2) (Is 1 1))).open_at_most 64 ≡ true
+shallow_first = ap (λ n. nat_le n.open_at_most 64) (at_first Nesting nesting_step)
+
+shallow_second : nat_le (nesting (Not (And (Is 0 0 ∷ Is 2 1 ∷ [])))).open_at_most 64 ≡ true
+shallow_second = ap (λ n. nat_le n.open_at_most 64) (at_second Nesting nesting_step)
+
+both_true : (a b : Bool) → a ≡ true → b ≡ true → (a && b) ≡ true
+both_true a b first second = ap (λ x. x && b) first ∙ second
+
+pub bike_rules : list_all (is_rule bike.variables) bike.rules ≡ true
+bike_rules = all_rules (is_rule bike.variables) true true
+    (both_true _ _ (at_first Bool (is_spelled_step bike.variables)) shallow_first)
+    (both_true _ _ (at_second Bool (is_spelled_step bike.variables)) shallow_second)

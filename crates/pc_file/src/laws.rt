@@ -1,0 +1,43 @@
+//! Laws of the definitions. Each function's contract is a law; nothing calls them.
+
+ghost use Rattle.std.specs.Prelude.{◌≡◌, ◌≢◌, ◌↔◌, ℕ, List, [], true, Contains, Some, slice_get};
+ghost use Rattle.std.specs.List.{AllPairs};
+ghost use Rattle.pc_diagram.specs.Bike.{bike_costs, bikes, open_listing};
+ghost use Rattle.pc_diagram.specs.Bounds.{no_bounds};
+ghost use Rattle.pc_names.specs.Places.{IsFirstPlace};
+ghost use Rattle.pc_file.specs.declared.variable.Variable.{Variable};
+ghost use Rattle.pc_file.specs.Limits.{Contents, IsFile, variable_names, value_names};
+ghost use Rattle.pc_file.specs.Products.{value_counts, obeys, products};
+ghost use Rattle.pc_file.specs.Costs.{costs_of, file_listing};
+ghost use Rattle.pc_file.specs.ListingText.{listing_text};
+ghost use Rattle.pc_file.specs.Positions.{variable_named, value_named};
+ghost use Rattle.pc_file.specs.Words.{is_word, is_before};
+ghost use Rattle.pc_file.specs.Bike.{bike, bike_text};
+
+/// The worked example, by evaluation: it keeps all limits, these are its products, and this is the text of what is
+/// listed of it with no choice and no bound.
+pub fn bike_has_eight_products()
+    ensures limits { IsFile bike }
+    ensures products { products bike ≡ bikes }
+    ensures costs { costs_of bike.variables ≡ bike_costs }
+    ensures listing { file_listing bike [] no_bounds ≡ open_listing }
+    ensures text { listing_text bike.variables open_listing ≡ bike_text }
+{}
+
+/// The products of a file are exactly the words, with a value of each variable, for which every rule holds. Each
+/// stands once, and each before those that are greater in the first value in which they differ.
+pub fn products_are_the_words_that_obey()
+    ensures words { (file : Contents) (word : List ℕ) → Contains (products file) word
+        ↔ ((is_word (value_counts file.variables) word ≡ true) × (obeys file word ≡ true)) }
+    ensures once { (file : Contents) → AllPairs (λ word other. word ≢ other) (products file) }
+    ensures in_order { (file : Contents) → AllPairs (λ word other. is_before word other ≡ true) (products file) }
+{}
+
+/// A name stands for the first variable that has it, and for the first value that has it among those of a variable.
+pub fn names_have_first_places()
+    ensures variables { (file : Contents) (name : List ℕ)
+        → IsFirstPlace (variable_names file.variables) name (variable_named file name) }
+    ensures values { (file : Contents) (place : ℕ) (variable : Variable) (name : List ℕ)
+        → slice_get file.variables place ≡ Some variable
+        → IsFirstPlace (value_names variable) name (value_named file place name) }
+{}

@@ -1,0 +1,10 @@
+pub mod Aside
+pub mod Calls
+pub mod Cutter
+pub mod Held
+pub mod Limits
+pub mod Lines
+pub mod Memory
+pub mod NextLine
+pub mod Reached
+pub mod Told

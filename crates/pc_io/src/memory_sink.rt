@@ -1,0 +1,100 @@
+//! A sink in memory.
+
+ghost use Rattle.std.specs.Prelude.{◌≡◌, ◌-◌, ◌<◌, ◌≤◌, ◌++◌, [], Some, length, take, min, nat_lt, nat_le, ◌&&◌, ◌||◌, IfOk, OnErr, is_err};
+ghost use Rattle.pc_base.specs.Rose.{Rose};
+ghost use Rattle.pc_io.specs.Calls.{after_call, failed_calls, fails_next};
+ghost use Rattle.pc_io.specs.Memory.{failed_writes};
+
+use crate::calls::PlannedCalls;
+use crate::failed::Failed;
+use crate::sink::Sink;
+use pc_base::NoMemory;
+use std::alloc::Global;
+use std::marker::Model;
+
+/// Room in memory for bytes, with calls that fail. A write to a full one fails too.
+#[derive(Debug, Drop)]
+pub struct MemorySink {
+    bytes: Vec<u8>,
+    capacity: usize,
+    calls: PlannedCalls,
+    refused: u64,
+}
+
+impl Model for MemorySink {
+    ghost use Rattle.std.specs.Prelude.{◌≤◌, length};
+    ghost use Rattle.std.specs.Vec.{vec_capacity};
+    ghost use Rattle.pc_io.specs.Memory.{Intake};
+
+    ghost Value = { Intake };
+
+    ghost view = { λ s. record { bytes = s.bytes.items; capacity = s.capacity; calls = s.calls; refused = s.refused } };
+
+    ghost invariant = { λ s. (length s.bytes.items ≤ s.capacity) × (s.capacity ≤ vec_capacity s.bytes) };
+}
+
+impl MemorySink {
+    /// Takes the room at once. The writes of the numbers `failing`, counted from 0, fail.
+    pub fn new(alloc: Global, capacity: usize, failing: Vec<u64>) -> Result<MemorySink, NoMemory>
+        ensures { IfOk result (λ s. s ≡ record {
+          bytes = [];
+          capacity = capacity;
+          calls = record { failing = failing.items; made = 0 };
+          refused = 0;
+        }) }
+    {
+        Ok(MemorySink {
+            bytes: Vec::with_capacity(alloc, capacity)?,
+            capacity,
+            calls: PlannedCalls::new(failing),
+            refused: 0,
+        })
+    }
+
+    /// The bytes taken so far.
+    pub fn written(&self) -> &[u8]
+        ensures { result.now ≡ self.now.bytes }
+    {
+        self.bytes.as_slice()
+    }
+}
+
+impl Sink for MemorySink {
+    ghost written = { λ s. Some s.bytes };
+
+    ghost write_faults = { failed_writes };
+
+    fn write(&mut self, from: &[u8]) -> Result<usize, Failed>
+        ensures bound { IfOk result (λ n. n ≤ length from.now) }
+        ensures some { IfOk result (λ n. 0 < length from.now → 0 < n) }
+        ensures bytes { IfOk result (λ n. self.new.bytes ≡ self.old.bytes ++ take n from.now) }
+        // A write takes as many bytes as there is room for.
+        ensures count { IfOk result (λ n. n ≡ min (length from.now) (self.old.capacity - length self.old.bytes)) }
+
+        ensures failed { OnErr result (Rose (failed_writes self.old) (failed_writes self.new)) }
+        ensures kept { OnErr result (self.new.bytes ≡ self.old.bytes) }
+
+        ensures counted { failed_writes self.old ≤ failed_writes self.new }
+
+        // It fails exactly as planned, and where there is no room for a byte.
+        ensures planned { is_err result
+            ≡ (fails_next self.old.calls || (nat_lt 0 (length from.now) && nat_le self.old.capacity (length self.old.bytes))) }
+        ensures calls { self.new.calls ≡ after_call self.old.calls }
+        ensures capacity { self.new.capacity ≡ self.old.capacity }
+    {
+        if self.calls.next_fails() {
+            return Err(Failed);
+        }
+        let room = self.capacity - self.bytes.len();
+        if room == 0 && !from.is_empty() {
+            self.refused = self.refused.saturating_add(1);
+            return Err(Failed);
+        }
+        let count = from.len().min(room);
+        match self.bytes.extend_from_slice(&from[..count]) {
+            Ok(()) => Ok(count),
+            // The room was taken when the sink was made.
+            Err(_) => unreachable!(),
+        }
+    }
+}

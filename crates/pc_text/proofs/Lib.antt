@@ -1,0 +1,9 @@
+pub mod CountLemmas
+pub mod FaultLemmas
+pub mod Levels
+pub mod LineLemmas
+pub mod LineWordLemmas
+pub mod OutcomeLemmas
+pub mod PhraseLemmas
+pub mod TokenLemmas
+pub mod Turns

@@ -1,0 +1,8 @@
+use Rattle.std.proofs.Common.{◌≡◌, not, length, sym, ◌∙◌, arith}
+use Rattle.std.proofs.lemmas.List.Sums.{position_or_len_is}
+use Rattle.pc_text.specs.LineWords.{is_space}
+use Rattle.pc_text.proofs.line_words.word_place.Goals as goal
+
+pub returns-clause-place : goal.returns-clause-place
+returns-clause-place c =
+    sym (position_or_len_is (λ byte. not (is_space byte)) c.args.line.now (length c.args.line.now) 0 (omega arith) (λ k below. c.loop-place.invariant k (omega arith)) (λ past. absurd (omega arith)))

@@ -1,0 +1,63 @@
+-- The first fault of a text, by its lines in order.
+use Rattle.std.specs.Prelude.{ℕ, ◌+◌, nat_lt, min, Bool, ◌||◌, if◌then◌else◌, List, [], ◌∷◌, length, Option, Some, None}
+use Rattle.pc_base.specs.Lines.{lines}
+use Rattle.pc_text.specs.declared.keyword.Keyword.{Keyword}
+use Rattle.pc_text.specs.declared.keyword.Keyword.TheVariants as keyword
+use Rattle.pc_text.specs.declared.kind.Kind.{Kind}
+use Rattle.pc_text.specs.declared.kind.Kind.TheVariants as kind
+use Rattle.pc_text.specs.LineWords.{after_word}
+use Rattle.pc_text.specs.Given.{Given, nothing_given, variables_given, catalogue_of, is_skipped, keyword_at, arguments_at, give_statement}
+use Rattle.pc_text.specs.Orders.{or_else, statement_fault}
+use Rattle.pc_text.specs.RuleText.{rule_of}
+
+-- a line has more than 65,536 bytes, or is line 8,193 or a later one, or ends, with its line feed, past byte 1,048,576
+abbrev pub is_large : ℕ → ℕ → List ℕ → Bool
+is_large number end line = nat_lt 65536 (length line) || nat_lt 8192 number || nat_lt 1048576 end
+
+abbrev pub size_fault : Bool → Option Kind
+size_fault large = if large then Some kind.Size else None
+
+-- the fault of a line after lines that give this
+unfoldable pub line_fault : Given → List ℕ → Option Kind
+line_fault given line =
+    if is_skipped line then None
+    else statement_fault given (keyword_at line) (arguments_at line) (rule_of (catalogue_of (variables_given given)) (after_word line))
+
+-- what the lines give with this one
+unfoldable pub give_line : Given → List ℕ → Given
+give_line given line =
+    if is_skipped line then given
+    else give_statement given (keyword_at line) (arguments_at line) (rule_of (catalogue_of (variables_given given)) (after_word line))
+
+-- the fault where the lines end
+abbrev pub end_fault : Option Keyword → Option Kind
+end_fault None = Some kind.Header
+end_fault (Some keyword.End) = None
+end_fault (Some last) = Some kind.End
+
+abbrev pub at : ℕ → Option Kind → Option (ℕ × Kind)
+at number None = None
+at number (Some kind) = Some (number, kind)
+
+abbrev pub or_later : Option (ℕ × Kind) → Option (ℕ × Kind) → Option (ℕ × Kind)
+or_later None later = later
+or_later (Some fault) later = Some fault
+
+-- The first fault from a line on: its number, the place of its first byte and the bytes of the whole text are given.
+unfoldable pub fault_from : Given → ℕ → ℕ → ℕ → List (List ℕ) → Option (ℕ × Kind)
+fault_from given number start total [] = at number (end_fault given.last)
+fault_from given number start total (line ∷ later) =
+    or_later (at number (or_else (size_fault (is_large number (min (start + length line + 1) total) line)) (line_fault given line)))
+    (fault_from (give_line given line) (number + 1) (start + length line + 1) total later)
+
+-- what lines give, one after the other
+unfoldable pub given_from : Given → List (List ℕ) → Given
+given_from given [] = given
+given_from given (line ∷ later) = given_from (give_line given line) later
+
+-- the first fault of a text: the number of its line, counted from 1, and its kind
+abbrev pub first_fault : List ℕ → Option (ℕ × Kind)
+first_fault text = fault_from nothing_given 1 0 (length text) (lines text)
+
+abbrev pub given_by : List ℕ → Given
+given_by text = given_from nothing_given (lines text)

@@ -1,0 +1,17 @@
+pub mod Arguments
+pub mod Counts
+pub mod FirstFault
+pub mod Given
+pub mod KindWord
+pub mod Keyword
+pub mod LineWords
+pub mod Naming
+pub mod Orders
+pub mod Outcome
+pub mod Reader
+pub mod Reading
+pub mod RuleFaults
+pub mod RuleText
+pub mod Told
+pub mod Token
+pub mod Words

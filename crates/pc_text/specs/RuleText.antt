@@ -1,0 +1,22 @@
+-- The rule that the bytes after the word `rule` spell, or the kind of the first fault.
+use Rattle.std.specs.Prelude.{ℕ, List, Ok}
+use Rattle.pc_file.specs.declared.catalogue.Catalogue.{Catalogue}
+use Rattle.pc_file.specs.declared.rule.Rule.{Rule}
+use Rattle.pc_text.specs.declared.checks.AtMostFault.TheVariants.{Number, Length}
+use Rattle.pc_text.specs.declared.kind.Kind.TheVariants as kind
+use Rattle.pc_text.specs.Outcome.{Outcome, ◌>>=◌, ◌>>◌, unless}
+use Rattle.pc_text.specs.Token.{tokens_of, is_too_deep}
+use Rattle.pc_text.specs.Reading.{phrase_of}
+use Rattle.pc_text.specs.RuleFaults.{has_fault, has_repeat}
+use Rattle.pc_text.specs.Naming.{rule_named}
+
+unfoldable pub rule_of : Catalogue → List ℕ → Outcome Rule
+rule_of names text = do
+  tokens ← tokens_of text
+  unless (is_too_deep tokens) kind.Depth
+  phrase ← phrase_of tokens
+  unless (has_fault Number phrase) kind.Number
+  unless (has_fault Length phrase) kind.Size
+  rule ← rule_named names phrase
+  unless (has_repeat rule) kind.Repeat
+  Ok rule

@@ -1,0 +1,27 @@
+-- What a function of the reader tells, set beside what reading gives. Want of memory tells nothing.
+use Rattle.std.specs.Prelude.{◌≡◌, ℕ, Option, Some, None, Result, Ok, Err}
+use Rattle.pc_file.specs.declared.rule.Rule.{Rule}
+use Rattle.pc_text.specs.declared.fault.RuleFault.{RuleFault}
+use Rattle.pc_text.specs.declared.fault.RuleFault.TheVariants.{Fault, NoMemory}
+use Rattle.pc_text.specs.declared.kind.Kind.{Kind}
+use Rattle.pc_text.specs.declared.text_fault.TextFault.{TextFault}
+use Rattle.pc_text.specs.declared.text_fault.TextFault.TheVariants.{At}
+use Rattle.pc_text.specs.declared.text_fault.TextFault.TheVariants as text
+
+-- no fault, and then P; or the first fault of this kind
+abbrev pub Answers : Result (Unit {0}) RuleFault → Option Kind → Type 0 → Type 0
+Answers (Ok done) fault P = (fault ≡ None) × P
+Answers (Err (Fault kind)) fault P = fault ≡ Some kind
+Answers (Err NoMemory) fault P = Unit {0}
+
+-- no fault, and then P; or the first fault, told with the number of its line
+abbrev pub AnswersAt : ℕ → Result (Unit {0}) TextFault → Option Kind → Type 0 → Type 0
+AnswersAt number (Ok done) fault P = (fault ≡ None) × P
+AnswersAt number (Err (At line kind)) fault P = (line ≡ number) × (fault ≡ Some kind)
+AnswersAt number (Err text.NoMemory) fault P = Unit {0}
+
+-- a value of which P holds, where the text has no fault; or its first fault
+abbrev pub ReadsText : {X : Type 0} → (X → Type 0) → Result X TextFault → Option (ℕ × Kind) → Type 0
+ReadsText P (Ok x) fault = (fault ≡ None) × P x
+ReadsText P (Err (At line kind)) fault = fault ≡ Some (line, kind)
+ReadsText P (Err text.NoMemory) fault = Unit {0}

@@ -1,0 +1,93 @@
+//! The first words of statements.
+
+ghost use Rattle.std.specs.Prelude.{◌≡◌};
+ghost use Rattle.pc_file.specs.Spelling.{same_spelling};
+ghost use Rattle.pc_text.specs.Keyword.{keyword_of, follows, expected, named};
+
+use crate::kind::Kind;
+
+/// What a statement is about, which its first word tells.
+#[derive(Clone, Copy, Debug, PartialEq, Eq)]
+pub enum Keyword {
+    Product,
+    Cost,
+    Variable,
+    Value,
+    Rule,
+    End,
+}
+
+impl Keyword {
+    /// The keyword that a word is, if it is one.
+    #[tactic(auto, unfolding(crate::specs::Keyword::keyword_of))]
+    pub fn read(word: &[u8]) -> Option<Keyword>
+        ensures { result ≡ keyword_of word.now }
+    {
+        if is(word, "product") {
+            Some(Keyword::Product)
+        } else if is(word, "cost") {
+            Some(Keyword::Cost)
+        } else if is(word, "variable") {
+            Some(Keyword::Variable)
+        } else if is(word, "value") {
+            Some(Keyword::Value)
+        } else if is(word, "rule") {
+            Some(Keyword::Rule)
+        } else if is(word, "end") {
+            Some(Keyword::End)
+        } else {
+            None
+        }
+    }
+
+    /// Whether a statement that begins with `next` may come after one that begins with this.
+    pub fn may_precede(self, next: Option<Keyword>) -> bool
+        ensures { result ≡ follows self next }
+    {
+        match self {
+            Keyword::Product => matches!(next, Some(Keyword::Cost)),
+            Keyword::Cost => matches!(next, Some(Keyword::Cost | Keyword::Variable)),
+            Keyword::Variable => matches!(next, Some(Keyword::Value)),
+            Keyword::Value => matches!(
+                next,
+                Some(Keyword::Value | Keyword::Variable | Keyword::Rule | Keyword::End)
+            ),
+            Keyword::Rule => matches!(next, Some(Keyword::Rule | Keyword::End)),
+            Keyword::End => false,
+        }
+    }
+
+    /// The kind of the fault where a statement may not come after one that begins with this.
+    pub fn expected(self) -> Kind
+        ensures { result ≡ expected self }
+    {
+        match self {
+            Keyword::Product => Kind::Cost,
+            Keyword::Cost => Kind::Variable,
+            Keyword::Variable => Kind::Value,
+            Keyword::Value => Kind::Value,
+            Keyword::Rule => Kind::Rule,
+            Keyword::End => Kind::End,
+        }
+    }
+
+    /// The kind of the fault where a statement that begins with this has wrong words.
+    pub fn kind(self) -> Kind
+        ensures { result ≡ named self }
+    {
+        match self {
+            Keyword::Product => Kind::Header,
+            Keyword::Cost => Kind::Cost,
+            Keyword::Variable => Kind::Variable,
+            Keyword::Value => Kind::Value,
+            Keyword::Rule => Kind::Rule,
+            Keyword::End => Kind::End,
+        }
+    }
+}
+
+fn is(word: &[u8], spelling: &str) -> bool
+    ensures { result ≡ same_spelling word.now spelling.now }
+{
+    word == spelling.as_bytes()
+}

@@ -1,0 +1,356 @@
+//! Reading statements one after the other.
+
+ghost use Rattle.std.specs.Prelude.{◌≡◌, ◌==◌, ◌&&◌, ◌||◌, not, [], ◌∷◌, ◌<◌, ◌≤◌, codes, map, length, slice_index, Some, None, IfOk, IsErrOf, OnOk, Result};
+ghost use Rattle.pc_file.specs.Limits.{IsFile};
+ghost use Rattle.std.specs.List.{list_all, list_any};
+ghost use Rattle.pc_file.specs.Spelling.{same_spelling};
+ghost use Rattle.pc_text.specs.Arguments.{bytes, IsOnlyFreeName, IsOnlyName, IsValueOf};
+ghost use Rattle.pc_file.specs.declared.rule.Rule.{Rule};
+ghost use Rattle.pc_text.specs.declared.kind.Kind.{Kind};
+ghost use Rattle.pc_text.specs.Given.{argument, catalogue_of, contents_given, give, give_rule, give_statement, number_at, variables_given, with_value};
+ghost use Rattle.pc_text.specs.Orders.{is_cost_text, fault_of_rule, first_standing, or_else, orders_within, rule_fault, statement_fault};
+ghost use Rattle.pc_text.specs.FirstFault.{line_fault, give_line};
+ghost use Rattle.pc_text.specs.LineWords.{words};
+ghost use Rattle.pc_text.specs.declared.kind.Kind.TheVariants.{Header};
+ghost use Rattle.pc_text.specs.RuleText.{rule_of};
+ghost use Rattle.pc_text.specs.Told.{Answers};
+ghost use Rattle.pc_text.specs.declared.keyword.Keyword.TheVariants as keyword;
+
+use crate::fault::RuleFault;
+use crate::keyword::Keyword;
+use crate::kind::Kind;
+use crate::line_words::{cut_word, words};
+use crate::rule_text::read_rule;
+use crate::statement::is_cost_text;
+use pc_base::{NoMemory, Sequence};
+use pc_file::{Catalogue, File, FileFault, Names, Rule, Value, Variable, is_reserved};
+use pc_names::{Name, read_int};
+use std::alloc::Global;
+
+/// The variable whose values are being given.
+#[derive(Debug, Drop)]
+struct OpenVariable {
+    name: Name,
+    values: Sequence<Value>,
+    names: Names,
+}
+
+impl OpenVariable {
+    ghost use Rattle.pc_text.specs.Reader.{opened, IsListed, open_faults};
+
+    /// Puts a value at the end.
+    fn add(&mut self, value: Value) -> Result<(), RuleFault>
+        requires { IsListed self.old }
+        ensures { Answers result (first_standing (open_faults (opened self.old) value.name))
+            (IsListed self.new × (opened self.new ≡ with_value value (opened self.old))) }
+    {
+        if self.values.len() >= 64 {
+            return Err(RuleFault::Fault(Kind::Size));
+        }
+        if !self.names.add(value.name)? {
+            return Err(RuleFault::Fault(Kind::Repeat));
+        }
+        self.values.push(value)?;
+        Ok(())
+    }
+}
+
+/// What the statements so far give, with the names found by their hashes.
+#[derive(Debug, Drop)]
+pub struct Reader {
+    last: Option<Keyword>,
+    costs: Sequence<Name>,
+    closed: Sequence<Variable>,
+    open_variable: Option<OpenVariable>,
+    rules: Sequence<Rule>,
+    names: Catalogue,
+}
+
+impl Reader {
+    ghost use Rattle.pc_text.specs.Given.{nothing_given};
+    ghost use Rattle.pc_text.specs.Reader.{IsIndexed, Holds, given_of};
+
+    /// Before the first statement.
+    pub fn new(alloc: Global) -> Reader
+        ensures { Holds result nothing_given }
+    {
+        Reader {
+            last: None,
+            costs: Sequence::new(alloc),
+            closed: Sequence::new(alloc),
+            open_variable: None,
+            rules: Sequence::new(alloc),
+            names: Catalogue::new(alloc),
+        }
+    }
+
+    /// The next line of the text. After an answer other than `Ok` the reader is of no more use.
+    #[tactic(auto, unfolding(crate::specs::FirstFault::line_fault, crate::specs::FirstFault::give_line))]
+    pub fn take_line(&mut self, alloc: Global, line: &[u8]) -> Result<(), RuleFault>
+        requires { IsIndexed self.old }
+        ensures { Answers result (line_fault (given_of self.old) line.now) (Holds self.new (give_line (given_of self.old) line.now)) }
+    {
+        let (word, text) = cut_word(line);
+        if is_skipped(word) {
+            return Ok(());
+        }
+        self.take_statement(alloc, Keyword::read(word), text)
+    }
+
+    /// The file that all statements give.
+    pub fn into_file(mut self, alloc: Global) -> Result<File, FileFault>
+        requires { IsIndexed self }
+        ensures file { IfOk result (λ file. file ≡ contents_given (given_of self)) }
+        ensures limit { IsErrOf result FileFault.Limit → ¬ IsFile (contents_given (given_of self)) }
+    {
+        self.close()?;
+        File::new(alloc, self.costs, self.closed, self.rules)
+    }
+
+    /// The keyword of the last statement.
+    pub fn last(&self) -> Option<Keyword>
+        ensures { result ≡ (given_of self.now).last }
+    {
+        self.last
+    }
+
+    /// A line that isn't skipped, by its keyword and the bytes after that.
+    fn take_statement(
+        &mut self,
+        alloc: Global,
+        word: Option<Keyword>,
+        text: &[u8],
+    ) -> Result<(), RuleFault>
+        requires { IsIndexed self.old }
+        ensures { let given = given_of self.old in let rule = rule_of (catalogue_of (variables_given given)) text.now in
+            Answers result (statement_fault given word (words text.now) rule) (Holds self.new (give_statement given word (words text.now) rule)) }
+    {
+        match (self.last, word) {
+            (None, Some(Keyword::Product)) => self.take_header(&words(alloc, text)?),
+            (None, _) => Err(RuleFault::Fault(Kind::Header)),
+            (Some(last), Some(next)) if last.may_precede(Some(next)) => {
+                self.take_allowed(alloc, next, text)
+            }
+            (Some(last), _) => Err(RuleFault::Fault(last.expected())),
+        }
+    }
+
+    /// A first line that begins with `product`.
+    fn take_header(&mut self, arguments: &[&[u8]]) -> Result<(), RuleFault>
+        requires { IsIndexed self.old }
+        ensures { Answers result (first_standing ((not ((length (bytes arguments.now) == 1) && same_spelling (argument (bytes arguments.now) 0) (codes "1")), Header) ∷ []))
+            (Holds self.new (give (given_of self.old) (Some Keyword.Product) (bytes arguments.now))) }
+    {
+        if arguments.len() != 1 || argument(arguments, 0) != b"1".as_slice() {
+            return Err(RuleFault::Fault(Kind::Header));
+        }
+        self.last = Some(Keyword::Product);
+        Ok(())
+    }
+
+    /// A statement that may come here.
+    fn take_allowed(&mut self, alloc: Global, word: Keyword, text: &[u8]) -> Result<(), RuleFault>
+        requires { IsIndexed self.old }
+        ensures { let given = given_of self.old in let rule = rule_of (catalogue_of (variables_given given)) text.now in
+            Answers result (or_else (first_standing (orders_within given (Some word) (words text.now))) (fault_of_rule (Some word) rule))
+            (Holds self.new (give_statement given (Some word) (words text.now) rule)) }
+    {
+        match word {
+            Keyword::Product => {
+                self.last = Some(Keyword::Product);
+                Ok(())
+            }
+            Keyword::Cost => self.take_cost(&words(alloc, text)?),
+            Keyword::Variable => self.take_variable(alloc, &words(alloc, text)?),
+            Keyword::Value => self.take_value(&words(alloc, text)?),
+            Keyword::Rule => self.take_rule(alloc, text),
+            Keyword::End => self.take_end(&words(alloc, text)?),
+        }
+    }
+
+    /// Closes the variable whose values are being given, if there is one.
+    fn close(&mut self) -> Result<(), NoMemory>
+        requires { IsIndexed self.old }
+        ensures { OnOk result (Holds self.new (record (given_of self.old) { closed = variables_given (given_of self.old); open_variable = None })) }
+    {
+        if let Some(variable) = self.open_variable.take() {
+            let OpenVariable {
+                name,
+                values,
+                names,
+            } = variable;
+            self.names.values.push(names)?;
+            self.closed.push(Variable { name, values })?;
+        }
+        Ok(())
+    }
+
+    /// A line `cost NAME`.
+    fn take_cost(&mut self, arguments: &[&[u8]]) -> Result<(), RuleFault>
+        requires { IsIndexed self.old }
+        ensures { Answers result (first_standing (orders_within (given_of self.old) (Some Keyword.Cost) (bytes arguments.now)))
+            (Holds self.new (give (given_of self.old) (Some Keyword.Cost) (bytes arguments.now))) }
+    {
+        let name = only_name(arguments).ok_or(RuleFault::Fault(Kind::Cost))?;
+        if self.costs.len() >= 2 {
+            return Err(RuleFault::Fault(Kind::Size));
+        }
+        if self.has_cost(&name) {
+            return Err(RuleFault::Fault(Kind::Repeat));
+        }
+        self.costs.push(name)?;
+        self.last = Some(Keyword::Cost);
+        Ok(())
+    }
+
+    /// A line `variable NAME`.
+    fn take_variable(&mut self, alloc: Global, arguments: &[&[u8]]) -> Result<(), RuleFault>
+        requires { IsIndexed self.old }
+        ensures { Answers result (first_standing (orders_within (given_of self.old) (Some Keyword.Variable) (bytes arguments.now)))
+            (Holds self.new (give (given_of self.old) (Some Keyword.Variable) (bytes arguments.now))) }
+    {
+        let name = only_free_name(arguments).ok_or(RuleFault::Fault(Kind::Variable))?;
+        self.close()?;
+        if self.closed.len() >= 64 {
+            return Err(RuleFault::Fault(Kind::Size));
+        }
+        if !self.names.variables.add(name)? {
+            return Err(RuleFault::Fault(Kind::Repeat));
+        }
+        self.open_variable = Some(OpenVariable {
+            name,
+            values: Sequence::new(alloc),
+            names: Names::new(alloc),
+        });
+        self.last = Some(Keyword::Variable);
+        Ok(())
+    }
+
+    /// A line `value NAME NUMBER` or `value NAME NUMBER NUMBER`.
+    fn take_value(&mut self, arguments: &[&[u8]]) -> Result<(), RuleFault>
+        requires { IsIndexed self.old }
+        ensures { Answers result (first_standing (orders_within (given_of self.old) (Some Keyword.Value) (bytes arguments.now)))
+            (Holds self.new (give (given_of self.old) (Some Keyword.Value) (bytes arguments.now))) }
+    {
+        let value = value_of(arguments, self.costs.len())?;
+        if let Some(variable) = &mut self.open_variable {
+            variable.add(value)?;
+        }
+        self.last = Some(Keyword::Value);
+        Ok(())
+    }
+
+    /// A line `end`.
+    fn take_end(&mut self, arguments: &[&[u8]]) -> Result<(), RuleFault>
+        requires { IsIndexed self.old }
+        ensures { Answers result (first_standing (orders_within (given_of self.old) (Some Keyword.End) (bytes arguments.now)))
+            (Holds self.new (give (given_of self.old) (Some Keyword.End) (bytes arguments.now))) }
+    {
+        if !arguments.is_empty() {
+            return Err(RuleFault::Fault(Kind::End));
+        }
+        self.close()?;
+        self.last = Some(Keyword::End);
+        Ok(())
+    }
+
+    /// A line that begins with `rule`.
+    fn take_rule(&mut self, alloc: Global, text: &[u8]) -> Result<(), RuleFault>
+        requires { IsIndexed self.old }
+        ensures { let rule = rule_of (catalogue_of (variables_given (given_of self.old))) text.now in
+            Answers result (or_else (first_standing (orders_within (given_of self.old) (Some Keyword.Rule) [])) (rule_fault rule))
+            (Holds self.new (give_rule (given_of self.old) rule)) }
+    {
+        if self.rules.len() >= 1024 {
+            return Err(RuleFault::Fault(Kind::Size));
+        }
+        self.close()?;
+        let rule = read_rule(alloc, &self.names, text)?;
+        self.rules.push(rule)?;
+        self.last = Some(Keyword::Rule);
+        Ok(())
+    }
+
+    fn has_cost(&self, name: &Name) -> bool
+        ensures { result ≡ list_any (same_spelling name.now) self.now.costs }
+    {
+        self.costs.as_slice().iter().any(|cost| name == cost)
+    }
+}
+
+/// Whether the first word of a line makes it one that is skipped.
+fn is_skipped(word: &[u8]) -> bool
+    ensures { result ≡ ((length word.now == 0) || (slice_index word.now 0 == 35)) }
+{
+    word.is_empty() || word[0] == b'#'
+}
+
+/// The one argument, if there is no other and it spells a name.
+fn only_name(arguments: &[&[u8]]) -> Option<Name>
+    ensures { IsOnlyName (bytes arguments.now) result }
+{
+    match arguments {
+        [name] => Name::read(name).ok(),
+        _ => None,
+    }
+}
+
+/// The one argument, if there is no other and it spells a name that a variable may have.
+fn only_free_name(arguments: &[&[u8]]) -> Option<Name>
+    ensures { IsOnlyFreeName (bytes arguments.now) result }
+{
+    let name = only_name(arguments)?;
+    (!is_reserved(&name)).then_some(name)
+}
+
+/// The value that a name and a number for each cost give.
+fn value_of(arguments: &[&[u8]], costs: usize) -> Result<Value, RuleFault>
+    ensures { IsValueOf (bytes arguments.now) costs result }
+{
+    if arguments.is_empty() || arguments.len() - 1 != costs {
+        return Err(RuleFault::Fault(Kind::Value));
+    }
+    let name = Name::read(argument(arguments, 0)).or(Err(RuleFault::Fault(Kind::Value)))?;
+    if !are_costs(&arguments[1..]) {
+        return Err(RuleFault::Fault(Kind::Number));
+    }
+    Ok(Value {
+        name,
+        first: number_at(arguments, 1),
+        second: number_at(arguments, 2),
+    })
+}
+
+/// The argument at a place, or nothing.
+fn argument<'a>(arguments: &[&'a [u8]], place: usize) -> &'a [u8]
+    ensures { result.now ≡ argument (bytes arguments.now) place }
+{
+    match arguments.get(place) {
+        Some(word) => word,
+        None => &[],
+    }
+}
+
+fn are_costs(words: &[&[u8]]) -> bool
+    ensures { result ≡ list_all is_cost_text (bytes words.now) }
+{
+    each_is_cost(words)
+}
+
+fn each_is_cost(words: &[&[u8]]) -> bool
+    ensures { result ≡ list_all (λ word. is_cost_text word.now) words.now }
+{
+    for word in words {
+        if !is_cost_text(word) {
+            return false;
+        }
+    }
+    true
+}
+
+/// The number that an argument spells, or 0.
+fn number_at(arguments: &[&[u8]], place: usize) -> i64
+    ensures { result ≡ number_at (bytes arguments.now) place }
+{
+    read_int(argument(arguments, place)).unwrap_or(0)
+}

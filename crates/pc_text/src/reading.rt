@@ -1,0 +1,78 @@
+//! Reading a text from its first line to its last.
+
+ghost use Rattle.std.specs.Prelude.{◌≡◌};
+ghost use Rattle.pc_text.specs.FirstFault.{end_fault, first_fault, give_line, given_by, is_large, line_fault};
+ghost use Rattle.pc_text.specs.Reader.{Holds, IsIndexed, given_of};
+ghost use Rattle.pc_text.specs.Told.{AnswersAt, ReadsText};
+
+use crate::fault::RuleFault;
+use crate::keyword::Keyword;
+use crate::kind::Kind;
+use crate::lines::cut_line;
+use crate::reader::Reader;
+use crate::text_fault::TextFault;
+use std::alloc::Global;
+
+/// The most bytes of a line, lines of a text and bytes of a text.
+const LINE_BYTES: usize = 65_536;
+
+const LINES: u64 = 8_192;
+
+const TEXT_BYTES: usize = 1_048_576;
+
+/// What all lines of a text give, or the first fault.
+pub fn read_statements(alloc: Global, text: &[u8]) -> Result<Reader, TextFault>
+    ensures { ReadsText (λ reader. Holds reader (given_by text.now)) result (first_fault text.now) }
+{
+    let mut reader = Reader::new(alloc);
+    let mut rest = text;
+    let mut number = 1;
+    while !rest.is_empty() {
+        let (line, after) = cut_line(rest);
+        if is_large(number, text.len() - after.len(), line) {
+            return Err(TextFault::At {
+                line: number,
+                kind: Kind::Size,
+            });
+        }
+        if let Err(fault) = take_line(alloc, &mut reader, number, line) {
+            return Err(fault);
+        }
+        rest = after;
+        number += 1;
+    }
+    match end_fault(reader.last()) {
+        Some(kind) => Err(TextFault::At { line: number, kind }),
+        None => Ok(reader),
+    }
+}
+
+/// The next line, with its number, which a fault tells.
+fn take_line(alloc: Global, reader: &mut Reader, number: u64, line: &[u8]) -> Result<(), TextFault>
+    requires { IsIndexed reader.old }
+    ensures { AnswersAt number result (line_fault (given_of reader.old) line.now) (Holds reader.new (give_line (given_of reader.old) line.now)) }
+{
+    match reader.take_line(alloc, line) {
+        Ok(()) => Ok(()),
+        Err(RuleFault::Fault(kind)) => Err(TextFault::At { line: number, kind }),
+        Err(RuleFault::NoMemory) => Err(TextFault::NoMemory),
+    }
+}
+
+/// Whether a line is too long, one too many, or ends past the most bytes.
+fn is_large(number: u64, end: usize, line: &[u8]) -> bool
+    ensures { result ≡ is_large number end line.now }
+{
+    line.len() > LINE_BYTES || number > LINES || end > TEXT_BYTES
+}
+
+/// The fault where the lines end after a statement of this kind.
+fn end_fault(last: Option<Keyword>) -> Option<Kind>
+    ensures { result ≡ end_fault last }
+{
+    match last {
+        None => Some(Kind::Header),
+        Some(Keyword::End) => None,
+        Some(_) => Some(Kind::End),
+    }
+}

@@ -1,0 +1,25 @@
+//! The file that a text spells.
+
+ghost use Rattle.std.specs.Prelude.{◌≡◌};
+ghost use Rattle.pc_text.specs.FirstFault.{first_fault, given_by};
+ghost use Rattle.pc_text.specs.Given.{contents_given};
+ghost use Rattle.pc_text.specs.Told.{ReadsText};
+
+use crate::reading::read_statements;
+use crate::text_fault::TextFault;
+use pc_file::{File, FileFault};
+use std::alloc::Global;
+
+/// The file that a product text spells, or the first fault of the text.
+pub fn read_file(alloc: Global, text: &[u8]) -> Result<File, TextFault>
+    ensures exact { ReadsText (λ file. file ≡ contents_given (given_by text.now)) result (first_fault text.now) }
+{
+    match read_statements(alloc, text) {
+        Ok(reader) => match reader.into_file(alloc) {
+            Ok(file) => Ok(file),
+            Err(FileFault::Limit) => Err(TextFault::NoMemory),
+            Err(FileFault::NoMemory) => Err(TextFault::NoMemory),
+        },
+        Err(fault) => Err(fault),
+    }
+}
