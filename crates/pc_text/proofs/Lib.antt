@@ -1,4 +1,5 @@
 pub mod CountLemmas
+pub mod CrowdLemmas
 pub mod FaultLemmas
 pub mod Levels
 pub mod LineLemmas
