@@ -1,14 +1,14 @@
 -- How many words there are, and where they become too many.
-use Rattle.std.proofs.Common.{◌≡◌, ℕ, ◌+◌, ◌*◌, ◌<◌, ◌≤◌, Bool, true, false, nat_lt, cond, List, [], ◌∷◌, ◌++◌, length, map, Option, Some, None, MatchOption, is_none, refl, sym, ap, ◌∙◌, arith}
+use Rattle.std.proofs.Common.{◌≡◌, ℕ, ◌+◌, ◌*◌, ◌<◌, ◌≤◌, Bool, true, false, true≢false, nat_lt, cond, List, [], ◌∷◌, ◌++◌, length, map, Option, Some, None, MatchOption, IsSome, refl, sym, ap, ◌∙◌, arith}
 use Rattle.std.specs.Option.{option_to_list, option_map}
 use Rattle.std.proofs.lemmas.Bool.Decides.{nat_tests}
 use Rattle.pc_base.specs.Lines.{first_line, after_line, lines}
 use Rattle.pc_base.proofs.LineCuts.{lines-first, lines-nil}
 use Rattle.pc_file.specs.declared.variable.Variable.{Variable}
 use Rattle.pc_file.specs.Products.{value_counts, word_count}
-use Rattle.pc_text.specs.Given.{Given}
-use Rattle.pc_text.specs.FirstFault.{give_line}
-use Rattle.pc_text.specs.Crowded.{is_crowded, crowded_from, words_before, or_first}
+use Rattle.pc_text.specs.Given.{Given, nothing_given}
+use Rattle.pc_text.specs.FirstFault.{give_line, given_from, given_by}
+use Rattle.pc_text.specs.Crowded.{is_crowded, crowded_from, crowded_line, words_before, or_first}
 
 pub before : (closed later : List Variable) → words_before (value_counts closed) (word_count (value_counts later)) ≡ word_count (value_counts (closed ++ later))
 before [] later = refl
@@ -56,3 +56,26 @@ crowded_all crowded given number rest whole empty read = by crowded ∙ ap (or_f
     by : (crowded : Option ℕ) → crowded ≡ or_first crowded None
     by (Some line) = refl
     by None = refl
+
+none_chosen : (b : Bool) (line : ℕ) (later : Option ℕ) → cond b (Some line) later ≡ None → (b ≡ false) × (later ≡ None)
+none_chosen true line later e = absurd cc
+none_chosen false line later e = (refl, e)
+
+given_from-nil : (given : Given) → given_from given [] ≡ given
+unfolding given_from
+given_from-nil given = refl
+
+given_from-cons : (given : Given) (line : List ℕ) (later : List (List ℕ)) → given_from given (line ∷ later) ≡ given_from (give_line given line) later
+unfolding given_from
+given_from-cons given line later = refl
+
+not_crowded : (given : Given) (number : ℕ) (later : List (List ℕ)) → is_crowded given ≡ false → crowded_from given number later ≡ None → is_crowded (given_from given later) ≡ false
+not_crowded given number [] few none = ap is_crowded (given_from-nil given) ∙ few
+not_crowded given number (line ∷ later) few none =
+    let parts = none_chosen (is_crowded (give_line given line)) number (crowded_from (give_line given line) (number + 1) later) (sym (crowded-cons given number line later) ∙ none) in
+    ap is_crowded (given_from-cons given line later) ∙ not_crowded (give_line given line) (number + 1) later parts.0 parts.1
+
+-- a text whose words are too many has a first line at which they are
+pub crowded_somewhere : (text : List ℕ) (line : Option ℕ) → line ≡ crowded_line text → is_crowded (given_by text) ≡ true → IsSome line
+crowded_somewhere text (Some line) is many = refl
+crowded_somewhere text None is many = absurd (true≢false (sym many ∙ not_crowded nothing_given 1 (lines text) refl (sym is)))

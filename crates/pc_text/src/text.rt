@@ -1,7 +1,7 @@
 //! The file that a text spells.
 
-ghost use Rattle.std.specs.Prelude.{◌≡◌};
-ghost use Rattle.pc_text.specs.Crowded.{crowded_line};
+ghost use Rattle.std.specs.Prelude.{◌≡◌, true, IfOk, IsSome};
+ghost use Rattle.pc_text.specs.Crowded.{crowded_line, is_crowded};
 ghost use Rattle.pc_text.specs.FirstFault.{first_fault, given_by};
 ghost use Rattle.pc_text.specs.Given.{contents_given};
 ghost use Rattle.pc_text.specs.Told.{ReadsText};
@@ -28,7 +28,8 @@ pub fn read_file(alloc: Global, text: &[u8]) -> Result<File, TextFault>
 /// The number of the first line, counted from 1, at which the numbers of values of the variables so far multiply to
 /// more than 65,536; `None` where they never do. It is a line with a value.
 pub fn crowded_line(alloc: Global, text: &[u8]) -> Result<Option<u64>, TextFault>
-    ensures { ReadsText (λ line. line ≡ crowded_line text.now) result (first_fault text.now) }
+    ensures exact { ReadsText (λ line. line ≡ crowded_line text.now) result (first_fault text.now) }
+    ensures found { is_crowded (given_by text.now) ≡ true → IfOk result IsSome }
 {
     match read_statements(alloc, text) {
         Ok(statements) => Ok(statements.crowded),
