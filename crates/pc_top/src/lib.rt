@@ -8,3 +8,6 @@ mod status;
 
 pub use program::run;
 pub use status::Status;
+
+#[cfg(test)]
+mod tests;

@@ -27,10 +27,7 @@ impl Reply {
 
     /// The answer to a product text: the listing of the file that it spells, without choices and bounds, and a line
     /// `.`; or one line that says why there is none.
-    #[tactic(
-        auto,
-        unfolding(crate::specs::ListReply::list_reply, crate::specs::ListReply::file_reply)
-    )]
+    #[tactic(auto, unfolding(crate::specs::ListReply::list_reply, crate::specs::ListReply::file_reply))]
     pub fn to_list(alloc: Global, text: &[u8]) -> Result<Reply, NoMemory>
         ensures { IfOk result (λ reply. Is reply (list_reply text.now)) }
     {

@@ -48,8 +48,8 @@ pub fn run<S: Source, K: Sink>(
     // the sink failed or memory ran out. So a text that isn't refused gets 0 or 6 where nothing failed.
     ensures exact { is_list (map (λ word. word.items) words.now.items) ≡ true → IfSome (S.rest source.old) (λ text.
         (result ≡ code (status_by_text text)) ⊎ (result ≡ 6)
-            ⊎ ((result ≡ 4) × Rose (S.read_faults source.old) (S.read_faults source.new))
-            ⊎ ((result ≡ 5) × Rose (K.write_faults sink.old) (K.write_faults sink.new))) }
+        ⊎ ((result ≡ 4) × Rose (S.read_faults source.old) (S.read_faults source.new))
+        ⊎ ((result ≡ 5) × Rose (K.write_faults sink.old) (K.write_faults sink.new))) }
 
     // 7: only where the bytes of the source break a limit.
     ensures too_long { result ≡ 7 → IfSome (S.rest source.old) (λ text. IsSome (broken text)) }
