@@ -7,3 +7,4 @@ pub mod OutcomeLemmas
 pub mod PhraseLemmas
 pub mod TokenLemmas
 pub mod Turns
+pub mod SoundText
