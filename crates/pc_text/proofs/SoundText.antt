@@ -1,5 +1,5 @@
 -- A text without a fault gives a file that keeps all limits.
-use Rattle.std.proofs.Common.{◌≡◌, ℕ, ℤ, pos, suc, ◌+◌, ◌<◌, ◌≤◌, Bool, true, false, not, ◌&&◌, ◌||◌, ◌==◌, cond, nat_le, List, [], ◌∷◌, ◌++◌, length, map, drop, min, Option, Some, None, Result, Ok, Err, refl, sym, ap, subst, ◌∙◌, arith, length-append}
+use Rattle.std.proofs.Common.{◌≡◌, ℕ, ℤ, pos, ◌+◌, ◌<◌, ◌≤◌, Bool, true, false, not, ◌&&◌, ◌==◌, cond, nat_le, List, [], ◌∷◌, ◌++◌, length, map, drop, min, Option, Some, None, Result, Ok, Err, refl, sym, ap, subst, ◌∙◌, arith, length-append}
 use Rattle.std.specs.Prelude.{is_none, option_map}
 use Rattle.std.specs.Fmt.{digits}
 use Rattle.std.specs.List.{list_all, list_any}
@@ -9,23 +9,24 @@ use Rattle.std.proofs.lemmas.List.{append-nil, length-map}
 use Rattle.std.proofs.lemmas.List.Folds.{list_all-append}
 use Rattle.pc_base.specs.Distinct.{all_differ}
 use Rattle.pc_base.specs.Lines.{lines}
-use Rattle.pc_base.proofs.DistinctLemmas.{both_true_parts, both_false_parts, all_differ-push}
+use Rattle.pc_base.proofs.DistinctLemmas.{both_true_parts, all_differ-push}
 use Rattle.pc_names.specs.Number.{int_of}
 use Rattle.pc_names.specs.Name.{is_name}
 use Rattle.pc_file.specs.declared.rule.Rule.{Rule}
 use Rattle.pc_file.specs.declared.variable.Value.{Value}
 use Rattle.pc_file.specs.declared.variable.Variable.{Variable}
-use Rattle.pc_file.specs.Limits.{Contents, IsFile, is_cost, is_reserved, is_value, is_sized, is_variable, value_names, variable_names, values_differ, names_differ, is_rule}
+use Rattle.pc_file.specs.Limits.{IsFile, is_cost, is_reserved, is_value, is_sized, is_variable, value_names, variable_names, values_differ, names_differ, is_rule}
 use Rattle.pc_file.specs.Spelling.{same_spelling}
 use Rattle.pc_file.proofs.NamesLemmas.{same_spelling-symmetric}
 use Rattle.pc_text.specs.declared.keyword.Keyword.{Keyword}
 use Rattle.pc_text.specs.declared.keyword.Keyword.TheVariants as keyword
 use Rattle.pc_text.specs.declared.kind.Kind.{Kind}
 use Rattle.pc_text.specs.LineWords.{after_word}
-use Rattle.pc_text.specs.Given.{Given, nothing_given, variables_given, contents_given, catalogue_of, is_skipped, keyword_at, arguments_at, argument, number_at, value_given, with_value, give, give_rule, give_statement}
+use Rattle.pc_text.specs.Given.{Given, nothing_given, variables_given, contents_given, catalogue_of, is_skipped, keyword_at, arguments_at, argument, value_given, with_value, give, give_rule, give_statement}
 use Rattle.pc_text.specs.Orders.{first_standing, is_wrong_header, comes_wrong, is_malformed, keeps_range, is_cost_text, has_wrong_number, is_one_too_many, is_repeated, orders, rule_fault, fault_of_rule, or_else, statement_fault}
 use Rattle.pc_text.specs.FirstFault.{is_large, size_fault, line_fault, give_line, end_fault, at, or_later, fault_from, given_from, first_fault, given_by}
 use Rattle.pc_text.specs.RuleText.{rule_of}
+use Rattle.pc_text.proofs.RuleKeeps.{rules_keep}
 
 -- ---- what lines without a fault have given
 
@@ -450,65 +451,60 @@ module _ (given : Given) (arguments : List (List ℕ)) (s : Sound given) where
 
 -- ---- line by line
 
--- a rule that is read keeps the limits of rules
-abbrev pub RulesKeep : Type 0
-RulesKeep = (variables : List Variable) (text : List ℕ) (rule : Rule) → names_differ variables ≡ true → rule_of (catalogue_of variables) text ≡ Ok rule → is_rule variables rule ≡ true
+given_line_by : (given : Given) (line : List ℕ) (skipped : Bool) → Sound given →
+    cond skipped None (statement_fault given (keyword_at line) (arguments_at line) (rule_of (catalogue_of (variables_given given)) (after_word line))) ≡ None →
+    Sound (cond skipped given (give_statement given (keyword_at line) (arguments_at line) (rule_of (catalogue_of (variables_given given)) (after_word line))))
+given_line_by given line true s none = s
+given_line_by given line false s none =
+    given_statement given (arguments_at line) s (keyword_at line) (rule_of (catalogue_of (variables_given given)) (after_word line))
+    (rules_keep (variables_given given) (after_word line)) none
 
-module _ (rules_keep : RulesKeep) where
-  given_line_by : (given : Given) (line : List ℕ) (skipped : Bool) → Sound given →
-      cond skipped None (statement_fault given (keyword_at line) (arguments_at line) (rule_of (catalogue_of (variables_given given)) (after_word line))) ≡ None →
-      Sound (cond skipped given (give_statement given (keyword_at line) (arguments_at line) (rule_of (catalogue_of (variables_given given)) (after_word line))))
-  given_line_by given line true s none = s
-  given_line_by given line false s none =
-      given_statement given (arguments_at line) s (keyword_at line) (rule_of (catalogue_of (variables_given given)) (after_word line))
-      (λ rule read. rules_keep (variables_given given) (after_word line) rule s.names read) none
+given_line : (given : Given) (line : List ℕ) → Sound given → line_fault given line ≡ None → Sound (give_line given line)
+unfolding line_fault give_line
+given_line given line s none = given_line_by given line (is_skipped line) s none
 
-  given_line : (given : Given) (line : List ℕ) → Sound given → line_fault given line ≡ None → Sound (give_line given line)
-  unfolding line_fault give_line
-  given_line given line s none = given_line_by given line (is_skipped line) s none
+no_later : (number : ℕ) (fault : Option Kind) (later : Option (ℕ × Kind)) → or_later (at number fault) later ≡ None → (fault ≡ None) × (later ≡ None)
+no_later number None later h = (refl, h)
+no_later number (Some kind) later h = absurd cc
 
-  no_later : (number : ℕ) (fault : Option Kind) (later : Option (ℕ × Kind)) → or_later (at number fault) later ≡ None → (fault ≡ None) × (later ≡ None)
-  no_later number None later h = (refl, h)
-  no_later number (Some kind) later h = absurd cc
+ended : (number : ℕ) (last : Option Keyword) → at number (end_fault last) ≡ None → last ≡ Some keyword.End
+ended number None h = absurd cc
+ended number (Some keyword.Product) h = absurd cc
+ended number (Some keyword.Cost) h = absurd cc
+ended number (Some keyword.Variable) h = absurd cc
+ended number (Some keyword.Value) h = absurd cc
+ended number (Some keyword.Rule) h = absurd cc
+ended number (Some keyword.End) h = refl
 
-  ended : (number : ℕ) (last : Option Keyword) → at number (end_fault last) ≡ None → last ≡ Some keyword.End
-  ended number None h = absurd cc
-  ended number (Some keyword.Product) h = absurd cc
-  ended number (Some keyword.Cost) h = absurd cc
-  ended number (Some keyword.Variable) h = absurd cc
-  ended number (Some keyword.Value) h = absurd cc
-  ended number (Some keyword.Rule) h = absurd cc
-  ended number (Some keyword.End) h = refl
+-- lines without a fault
+given_lines : (given : Given) (number start total : ℕ) (lines : List (List ℕ)) → Sound given → fault_from given number start total lines ≡ None →
+    Sound (given_from given lines) × ((given_from given lines).last ≡ Some keyword.End)
+unfolding fault_from given_from
+given_lines given number start total [] s none = (s, ended number given.last none)
+given_lines given number start total (line ∷ later) s none =
+    let own = or_else (size_fault (is_large number (min (start + length line + 1) total) line)) (line_fault given line) in
+    let rest = fault_from (give_line given line) (number + 1) (start + length line + 1) total later in
+    let parts = no_later number own rest none in
+    let fine = or_else_parts (size_fault (is_large number (min (start + length line + 1) total) line)) (line_fault given line) parts.0 in
+    given_lines (give_line given line) (number + 1) (start + length line + 1) total later (given_line given line s fine.1) parts.1
 
-  -- lines without a fault
-  given_lines : (given : Given) (number start total : ℕ) (lines : List (List ℕ)) → Sound given → fault_from given number start total lines ≡ None →
-      Sound (given_from given lines) × ((given_from given lines).last ≡ Some keyword.End)
-  unfolding fault_from given_from
-  given_lines given number start total [] s none = (s, ended number given.last none)
-  given_lines given number start total (line ∷ later) s none =
-      let own = or_else (size_fault (is_large number (min (start + length line + 1) total) line)) (line_fault given line) in
-      let rest = fault_from (give_line given line) (number + 1) (start + length line + 1) total later in
-      let parts = no_later number own rest none in
-      let fine = or_else_parts (size_fault (is_large number (min (start + length line + 1) total) line)) (line_fault given line) parts.0 in
-      given_lines (give_line given line) (number + 1) (start + length line + 1) total later (given_line given line s fine.1) parts.1
+complete_file : (given : Given) → Sound given → Complete given → IsFile (contents_given given)
+complete_file given s c =
+    let r = complete_ready given c in
+    record {
+      some_cost = c.some_cost;
+      costs_at_most = s.costs_at_most;
+      costs_differ = s.costs_differ;
+      some_variable = (after_all given c).1;
+      variables_at_most = s.variables_at_most;
+      names_differ = s.names;
+      each_variable = r.each_variable;
+      rules_at_most = s.rules_at_most;
+      each_rule = s.each_rule;
+    }
 
-  complete_file : (given : Given) → Sound given → Complete given → IsFile (contents_given given)
-  complete_file given s c =
-      let r = complete_ready given c in
-      record {
-        some_cost = c.some_cost;
-        costs_at_most = s.costs_at_most;
-        costs_differ = s.costs_differ;
-        some_variable = (after_all given c).1;
-        variables_at_most = s.variables_at_most;
-        names_differ = s.names;
-        each_variable = r.each_variable;
-        rules_at_most = s.rules_at_most;
-        each_rule = s.each_rule;
-      }
-
-  -- a text without a fault gives a file
-  pub no_fault_is_file : (text : List ℕ) → first_fault text ≡ None → IsFile (contents_given (given_by text))
-  no_fault_is_file text none =
-      let done = given_lines nothing_given 1 0 (length text) (lines text) nothing_sound none in
-      complete_file (given_by text) done.0 (subst (Stage (given_by text)) done.1 done.0.stage)
+-- a text without a fault gives a file
+pub no_fault_is_file : (text : List ℕ) → first_fault text ≡ None → IsFile (contents_given (given_by text))
+no_fault_is_file text none =
+    let done = given_lines nothing_given 1 0 (length text) (lines text) nothing_sound none in
+    complete_file (given_by text) done.0 (subst (Stage (given_by text)) done.1 done.0.stage)
