@@ -1,17 +1,17 @@
 -- In a rule that is read no more parentheses nest than in its text.
-use Rattle.std.proofs.Common.{◌≡◌, ℕ, ◌+◌, ◌-◌, ◌≤◌, true, false, cond, nat_le, nat_lt, List, [], ◌∷◌, ◌++◌, map, codes, Ok, Err, max, refl, sym, ap, ◌∙◌, arith, append_assoc}
+use Rattle.std.proofs.Common.{◌≡◌, ℕ, ◌+◌, ◌-◌, ◌≤◌, true, false, cond, nat_le, nat_lt, List, [], ◌∷◌, ◌++◌, map, codes, Ok, max, refl, sym, ap, ◌∙◌, arith, append_assoc}
 use Rattle.std.specs.List.{list_all}
 use Rattle.std.specs.Option.{unwrap_or}
 use Rattle.std.proofs.lemmas.Bool.Decides.{nat_tests}
 use Rattle.std.proofs.lemmas.List.{append-nil}
 use Rattle.pc_base.proofs.DistinctLemmas.{both_false_parts}
 use Rattle.pc_file.specs.declared.catalogue.Catalogue.{Catalogue}
-use Rattle.pc_file.specs.declared.rule.Rule.{Rule, Rule-F, fold-roll-Rule}
+use Rattle.pc_file.specs.declared.rule.Rule.{Rule}
 use Rattle.pc_file.specs.declared.rule.Rule.TheVariants as rule
 use Rattle.pc_file.specs.Limits.{is_shallow}
 use Rattle.pc_file.specs.Nesting.{Nesting, nesting, nesting_step, open_in_place, open_in_places}
 use Rattle.pc_file.proofs.NestingLemmas.{nat_le-max, within-places, nesting-And, nesting-Or, nesting-AtMost}
-use Rattle.pc_text.specs.declared.phrase.Phrase.{Phrase, Phrase-F, fold-roll-Phrase}
+use Rattle.pc_text.specs.declared.phrase.Phrase.{Phrase}
 use Rattle.pc_text.specs.declared.phrase.Phrase.TheVariants as phrase
 use Rattle.pc_text.specs.declared.token.Sign.TheVariants.{Arrow, NotEqual, Equal, Open, Close, OpenBrace, CloseBrace, Comma}
 use Rattle.pc_text.specs.declared.token.Token.{Token}
@@ -22,88 +22,84 @@ use Rattle.pc_text.specs.Token.{one_if_open, one_if_closed, is_deep_after, is_to
 use Rattle.pc_text.specs.Naming.{all_ok, variable_at, value_at, values_at, variables_at, rows_at, named_step, rule_named}
 use Rattle.pc_text.specs.Grammar.{parted, alone_word, Spells, SpellsEach}
 use Rattle.pc_text.specs.Grammar as grammar
+use Rattle.pc_text.proofs.PhraseFolds as of_phrase
+use Rattle.pc_text.proofs.RuleFolds as of_rule
+use Rattle.pc_text.proofs.Positions.{bind_ok, the_ok}
 use Rattle.pc_text.proofs.PhraseLemmas.{rule_named-And, rule_named-Or, rule_named-AtMost}
 
 -- ---- the rule that a phrase names, by its form
-
-bind_ok : {A B : Type 0} (first : Outcome A) (next : A → Outcome B) (y : B) → (first >>= next) ≡ Ok y → (x : A) × (first ≡ Ok x) × (next x ≡ Ok y)
-bind_ok (Ok x) next y e = (x, refl, e)
-bind_ok (Err kind) next y e = absurd cc
-
-the_rule : (p q : Rule) → ◌≡◌ {A = Outcome Rule} (Ok p) (Ok q) → q ≡ p
-the_rule p q e = cc
 
 module _ (names : Catalogue) where
   named-Is : (v a : List ℕ) (r : Rule) → rule_named names (phrase.Is v a) ≡ Ok r → (i : ℕ) × (j : ℕ) × (r ≡ rule.Is i j)
   named-Is v a r e =
       let form : rule_named names (phrase.Is v a) ≡ (variable_at names v >>= λ i. value_at names i a >>= λ j. Ok (rule.Is i j)) =
-      ap (rule_named names) (sym (phrase.rolls-Is v a)) ∙ fold-roll-Phrase (Outcome Rule) (named_step names) (Phrase-F.Is v a) in
+      of_phrase.fold-Is (Outcome Rule) (named_step names) v a in
       let one = bind_ok (variable_at names v) (λ i. value_at names i a >>= λ j. Ok (rule.Is i j)) r (sym form ∙ e) in
       let two = bind_ok (value_at names one.0 a) (λ j. Ok (rule.Is one.0 j)) r one.2 in
-      (one.0, two.0, the_rule _ r two.2)
+      (one.0, two.0, sym (the_ok _ r two.2))
 
   named-IsNot : (v a : List ℕ) (r : Rule) → rule_named names (phrase.IsNot v a) ≡ Ok r → (i : ℕ) × (j : ℕ) × (r ≡ rule.IsNot i j)
   named-IsNot v a r e =
       let form : rule_named names (phrase.IsNot v a) ≡ (variable_at names v >>= λ i. value_at names i a >>= λ j. Ok (rule.IsNot i j)) =
-      ap (rule_named names) (sym (phrase.rolls-IsNot v a)) ∙ fold-roll-Phrase (Outcome Rule) (named_step names) (Phrase-F.IsNot v a) in
+      of_phrase.fold-IsNot (Outcome Rule) (named_step names) v a in
       let one = bind_ok (variable_at names v) (λ i. value_at names i a >>= λ j. Ok (rule.IsNot i j)) r (sym form ∙ e) in
       let two = bind_ok (value_at names one.0 a) (λ j. Ok (rule.IsNot one.0 j)) r one.2 in
-      (one.0, two.0, the_rule _ r two.2)
+      (one.0, two.0, sym (the_ok _ r two.2))
 
   named-OneOf : (v : List ℕ) (these : List (List ℕ)) (r : Rule) → rule_named names (phrase.OneOf v these) ≡ Ok r → (i : ℕ) × (js : List ℕ) × (r ≡ rule.OneOf i js)
   named-OneOf v these r e =
       let form : rule_named names (phrase.OneOf v these) ≡ (variable_at names v >>= λ i. values_at names i these >>= λ js. Ok (rule.OneOf i js)) =
-      ap (rule_named names) (sym (phrase.rolls-OneOf v these)) ∙ fold-roll-Phrase (Outcome Rule) (named_step names) (Phrase-F.OneOf v these) in
+      of_phrase.fold-OneOf (Outcome Rule) (named_step names) v these in
       let one = bind_ok (variable_at names v) (λ i. values_at names i these >>= λ js. Ok (rule.OneOf i js)) r (sym form ∙ e) in
       let two = bind_ok (values_at names one.0 these) (λ js. Ok (rule.OneOf one.0 js)) r one.2 in
-      (one.0, two.0, the_rule _ r two.2)
+      (one.0, two.0, sym (the_ok _ r two.2))
 
   named-Same : (v w : List ℕ) (r : Rule) → rule_named names (phrase.Same v w) ≡ Ok r → (i : ℕ) × (j : ℕ) × (r ≡ rule.Same i j)
   named-Same v w r e =
       let form : rule_named names (phrase.Same v w) ≡ (variable_at names v >>= λ i. variable_at names w >>= λ j. Ok (rule.Same i j)) =
-      ap (rule_named names) (sym (phrase.rolls-Same v w)) ∙ fold-roll-Phrase (Outcome Rule) (named_step names) (Phrase-F.Same v w) in
+      of_phrase.fold-Same (Outcome Rule) (named_step names) v w in
       let one = bind_ok (variable_at names v) (λ i. variable_at names w >>= λ j. Ok (rule.Same i j)) r (sym form ∙ e) in
       let two = bind_ok (variable_at names w) (λ j. Ok (rule.Same one.0 j)) r one.2 in
-      (one.0, two.0, the_rule _ r two.2)
+      (one.0, two.0, sym (the_ok _ r two.2))
 
   named-Table : (vs : List (List ℕ)) (rows : List (List (List ℕ))) (r : Rule) → rule_named names (phrase.Table vs rows) ≡ Ok r → (is : List ℕ) × (js : List (List ℕ)) × (r ≡ rule.Table is js)
   named-Table vs rows r e =
       let form : rule_named names (phrase.Table vs rows) ≡ (variables_at names vs >>= λ is. rows_at names is rows >>= λ js. Ok (rule.Table is js)) =
-      ap (rule_named names) (sym (phrase.rolls-Table vs rows)) ∙ fold-roll-Phrase (Outcome Rule) (named_step names) (Phrase-F.Table vs rows) in
+      of_phrase.fold-Table (Outcome Rule) (named_step names) vs rows in
       let one = bind_ok (variables_at names vs) (λ is. rows_at names is rows >>= λ js. Ok (rule.Table is js)) r (sym form ∙ e) in
       let two = bind_ok (rows_at names one.0 rows) (λ js. Ok (rule.Table one.0 js)) r one.2 in
-      (one.0, two.0, the_rule _ r two.2)
+      (one.0, two.0, sym (the_ok _ r two.2))
 
   named-Not : (p : Phrase) (r : Rule) → rule_named names (phrase.Not p) ≡ Ok r → (q : Rule) × (rule_named names p ≡ Ok q) × (r ≡ rule.Not q)
   named-Not p r e =
       let form : rule_named names (phrase.Not p) ≡ (rule_named names p >>= λ q. Ok (rule.Not q)) =
-      ap (rule_named names) (sym (phrase.rolls-Not p)) ∙ fold-roll-Phrase (Outcome Rule) (named_step names) (Phrase-F.Not p) in
+      of_phrase.fold-Not (Outcome Rule) (named_step names) p in
       let one = bind_ok (rule_named names p) (λ q. Ok (rule.Not q)) r (sym form ∙ e) in
-      (one.0, one.1, the_rule _ r one.2)
+      (one.0, one.1, sym (the_ok _ r one.2))
 
   named-Implies : (p q : Phrase) (r : Rule) → rule_named names (phrase.Implies p q) ≡ Ok r → (a : Rule) × (b : Rule) × (rule_named names p ≡ Ok a) × (rule_named names q ≡ Ok b) × (r ≡ rule.Implies a b)
   named-Implies p q r e =
       let form : rule_named names (phrase.Implies p q) ≡ (rule_named names p >>= λ a. rule_named names q >>= λ b. Ok (rule.Implies a b)) =
-      ap (rule_named names) (sym (phrase.rolls-Implies p q)) ∙ fold-roll-Phrase (Outcome Rule) (named_step names) (Phrase-F.Implies p q) in
+      of_phrase.fold-Implies (Outcome Rule) (named_step names) p q in
       let one = bind_ok (rule_named names p) (λ a. rule_named names q >>= λ b. Ok (rule.Implies a b)) r (sym form ∙ e) in
       let two = bind_ok (rule_named names q) (λ b. Ok (rule.Implies one.0 b)) r one.2 in
-      (one.0, two.0, one.1, two.1, the_rule _ r two.2)
+      (one.0, two.0, one.1, two.1, sym (the_ok _ r two.2))
 
   named-And : (ps : List Phrase) (r : Rule) → rule_named names (phrase.And ps) ≡ Ok r → (rs : List Rule) × (all_ok (map (rule_named names) ps) ≡ Ok rs) × (r ≡ rule.And rs)
   named-And ps r e =
       let one = bind_ok (all_ok (map (rule_named names) ps)) (λ rs. Ok (rule.And rs)) r (sym (rule_named-And names ps) ∙ e) in
-      (one.0, one.1, the_rule _ r one.2)
+      (one.0, one.1, sym (the_ok _ r one.2))
 
   named-Or : (ps : List Phrase) (r : Rule) → rule_named names (phrase.Or ps) ≡ Ok r → (rs : List Rule) × (all_ok (map (rule_named names) ps) ≡ Ok rs) × (r ≡ rule.Or rs)
   named-Or ps r e =
       let one = bind_ok (all_ok (map (rule_named names) ps)) (λ rs. Ok (rule.Or rs)) r (sym (rule_named-Or names ps) ∙ e) in
-      (one.0, one.1, the_rule _ r one.2)
+      (one.0, one.1, sym (the_ok _ r one.2))
 
   named-AtMost : (most : List ℕ) (ps : List Phrase) (r : Rule) → rule_named names (phrase.AtMost most ps) ≡ Ok r →
       (rs : List Rule) × (all_ok (map (rule_named names) ps) ≡ Ok rs) × (r ≡ rule.AtMost (unwrap_or (count_of most) 0) rs)
   named-AtMost most ps r e =
       let one = bind_ok (all_ok (map (rule_named names) ps)) (λ rs. Ok (rule.AtMost (unwrap_or (count_of most) 0) rs)) r (sym (rule_named-AtMost names most ps) ∙ e) in
-      (one.0, one.1, the_rule _ r one.2)
+      (one.0, one.1, sym (the_ok _ r one.2))
 
   -- the first of several
   named-each : (p : Phrase) (ps : List Phrase) (rs : List Rule) → all_ok (rule_named names p ∷ map (rule_named names) ps) ≡ Ok rs →
@@ -111,33 +107,30 @@ module _ (names : Catalogue) where
   named-each p ps rs e =
       let one = bind_ok (rule_named names p) (λ q. all_ok (map (rule_named names) ps) >>= λ qs. Ok (q ∷ qs)) rs e in
       let two = bind_ok (all_ok (map (rule_named names) ps)) (λ qs. Ok (one.0 ∷ qs)) rs one.2 in
-      (one.0, two.0, one.1, two.1, the_rules _ rs two.2)
-    where
-      the_rules : (a b : List Rule) → ◌≡◌ {A = Outcome (List Rule)} (Ok a) (Ok b) → b ≡ a
-      the_rules a b e = cc
+      (one.0, two.0, one.1, two.1, sym (the_ok _ rs two.2))
 
 -- ---- the parentheses of a rule, by its form
 
 nesting-Is : (i j : ℕ) → nesting (rule.Is i j) ≡ record { strength = 4; open_at_most = 0 }
-nesting-Is i j = ap nesting (sym (rule.rolls-Is i j)) ∙ fold-roll-Rule Nesting nesting_step (Rule-F.Is i j)
+nesting-Is i j = of_rule.fold-Is Nesting nesting_step i j
 
 nesting-IsNot : (i j : ℕ) → nesting (rule.IsNot i j) ≡ record { strength = 4; open_at_most = 0 }
-nesting-IsNot i j = ap nesting (sym (rule.rolls-IsNot i j)) ∙ fold-roll-Rule Nesting nesting_step (Rule-F.IsNot i j)
+nesting-IsNot i j = of_rule.fold-IsNot Nesting nesting_step i j
 
 nesting-OneOf : (i : ℕ) (js : List ℕ) → nesting (rule.OneOf i js) ≡ record { strength = 4; open_at_most = 0 }
-nesting-OneOf i js = ap nesting (sym (rule.rolls-OneOf i js)) ∙ fold-roll-Rule Nesting nesting_step (Rule-F.OneOf i js)
+nesting-OneOf i js = of_rule.fold-OneOf Nesting nesting_step i js
 
 nesting-Same : (i j : ℕ) → nesting (rule.Same i j) ≡ record { strength = 4; open_at_most = 1 }
-nesting-Same i j = ap nesting (sym (rule.rolls-Same i j)) ∙ fold-roll-Rule Nesting nesting_step (Rule-F.Same i j)
+nesting-Same i j = of_rule.fold-Same Nesting nesting_step i j
 
 nesting-Table : (is : List ℕ) (rows : List (List ℕ)) → nesting (rule.Table is rows) ≡ record { strength = 4; open_at_most = 1 }
-nesting-Table is rows = ap nesting (sym (rule.rolls-Table is rows)) ∙ fold-roll-Rule Nesting nesting_step (Rule-F.Table is rows)
+nesting-Table is rows = of_rule.fold-Table Nesting nesting_step is rows
 
 nesting-Not : (q : Rule) → nesting (rule.Not q) ≡ record { strength = 3; open_at_most = open_in_place 4 (nesting q) }
-nesting-Not q = ap nesting (sym (rule.rolls-Not q)) ∙ fold-roll-Rule Nesting nesting_step (Rule-F.Not q)
+nesting-Not q = of_rule.fold-Not Nesting nesting_step q
 
 nesting-Implies : (a b : Rule) → nesting (rule.Implies a b) ≡ record { strength = 0; open_at_most = max (open_in_place 1 (nesting a)) (open_in_place 1 (nesting b)) }
-nesting-Implies a b = ap nesting (sym (rule.rolls-Implies a b)) ∙ fold-roll-Rule Nesting nesting_step (Rule-F.Implies a b)
+nesting-Implies a b = of_rule.fold-Implies Nesting nesting_step a b
 
 -- ---- parentheses that are open between tokens
 

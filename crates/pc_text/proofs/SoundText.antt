@@ -4,6 +4,7 @@ use Rattle.std.specs.Prelude.{is_none, option_map}
 use Rattle.std.specs.Fmt.{digits}
 use Rattle.std.specs.List.{list_all, list_any}
 use Rattle.std.specs.Option.{option_to_list, unwrap_or}
+use Rattle.std.proofs.lemmas.Bool.{and_from, not-false, not-true}
 use Rattle.std.proofs.lemmas.Bool.Decides.{nat_tests}
 use Rattle.std.proofs.lemmas.List.{append-nil, length-map}
 use Rattle.std.proofs.lemmas.List.Folds.{list_all-append}
@@ -87,14 +88,6 @@ nothing_sound = record {
 
 -- ---- tests
 
-false_not : (b : Bool) → not b ≡ false → b ≡ true
-false_not true h = refl
-false_not false h = absurd cc
-
-all_parts : (a b : Bool) → a ≡ true → b ≡ true → (a && b) ≡ true
-all_parts true b ha hb = hb
-all_parts false b ha hb = absurd cc
-
 standing_parts : (fault : Bool) (kind : Kind) (later : Option Kind) → cond fault (Some kind) later ≡ None → (fault ≡ false) × (later ≡ None)
 standing_parts true kind later h = absurd cc
 standing_parts false kind later h = (refl, h)
@@ -139,7 +132,7 @@ names_differ-push : (variables : List Variable) (variable : Variable) → names_
     names_differ (variables ++ variable ∷ []) ≡ true
 names_differ-push variables variable differ new values =
     let parts = both_true_parts (all_differ same_spelling (variable_names variables)) (list_all values_differ variables) differ in
-    all_parts _ _
+    and_from _ _
     (ap (all_differ same_spelling) (map-push (λ v. v.name) variables variable) ∙ all_differ-push same_spelling same_spelling-symmetric (variable_names variables) variable.name parts.0 new)
     (all-push values_differ variables variable parts.1 values)
 
@@ -153,7 +146,7 @@ names_differ-value variables variable value differ new =
     let names : variable_names (variables ++ with_value value variable ∷ []) ≡ variable_names (variables ++ variable ∷ []) = map-push (λ v. v.name) variables (with_value value variable) ∙ sym (map-push (λ v. v.name) variables variable) in
     let values : values_differ (with_value value variable) ≡ true =
     ap (all_differ same_spelling) (map-push (λ v. v.name) variable.values value) ∙ all_differ-push same_spelling same_spelling-symmetric (value_names variable) value.name last.0 new in
-    all_parts _ _ (ap (all_differ same_spelling) names ∙ parts.0) (all-push values_differ variables (with_value value variable) each.0 values)
+    and_from _ _ (ap (all_differ same_spelling) names ∙ parts.0) (all-push values_differ variables (with_value value variable) each.0 values)
 
 -- ---- which statement came before
 
@@ -223,8 +216,8 @@ before_value given (Some keyword.Rule) stage some comes = absurd cc
 before_value given (Some keyword.End) stage some comes = absurd cc
 
 -- what comes after the last value
-after_values : (given : Given) (last : Option Keyword) → Opened 1 given → Ready given × (1 ≤ length (variables_given given))
-after_values given last o = (opened_ready given o, rw o.is (omega (arith, length-push given.closed o.variable)))
+after_values : (given : Given) → Opened 1 given → Ready given × (1 ≤ length (variables_given given))
+after_values given o = (opened_ready given o, rw o.is (omega (arith, length-push given.closed o.variable)))
 
 after_all : (given : Given) → Complete given → Ready given × (1 ≤ length (variables_given given))
 after_all given c = (complete_ready given c, rw (c.open_variable, append-nil) c.some_variable)
@@ -234,7 +227,7 @@ before_rule given None stage some comes = absurd cc
 before_rule given (Some keyword.Product) stage some comes = absurd cc
 before_rule given (Some keyword.Cost) stage some comes = absurd cc
 before_rule given (Some keyword.Variable) stage some comes = absurd cc
-before_rule given (Some keyword.Value) stage some comes = after_values given (Some keyword.Value) stage
+before_rule given (Some keyword.Value) stage some comes = after_values given stage
 before_rule given (Some keyword.Rule) stage some comes = after_all given stage
 before_rule given (Some keyword.End) stage some comes = absurd cc
 
@@ -243,7 +236,7 @@ before_end given None stage some comes = absurd cc
 before_end given (Some keyword.Product) stage some comes = absurd cc
 before_end given (Some keyword.Cost) stage some comes = absurd cc
 before_end given (Some keyword.Variable) stage some comes = absurd cc
-before_end given (Some keyword.Value) stage some comes = after_values given (Some keyword.Value) stage
+before_end given (Some keyword.Value) stage some comes = after_values given stage
 before_end given (Some keyword.Rule) stage some comes = after_all given stage
 before_end given (Some keyword.End) stage some comes = absurd cc
 
@@ -284,13 +277,9 @@ given_cost given arguments s a =
 -- the name of a variable is no reserved word
 free_name : (arguments : List (List ℕ)) → not ((length arguments == 1) && is_name (argument arguments 0) && not (is_reserved (argument arguments 0))) ≡ false → is_reserved (argument arguments 0) ≡ false
 free_name arguments h =
-    let all = false_not ((length arguments == 1) && is_name (argument arguments 0) && not (is_reserved (argument arguments 0))) h in
+    let all = not-false ((length arguments == 1) && is_name (argument arguments 0) && not (is_reserved (argument arguments 0))) h in
     let parts = both_true_parts ((length arguments == 1) && is_name (argument arguments 0)) (not (is_reserved (argument arguments 0))) all in
-    no_longer (is_reserved (argument arguments 0)) parts.1
-  where
-    no_longer : (b : Bool) → not b ≡ true → b ≡ false
-    no_longer true h = absurd cc
-    no_longer false h = refl
+    not-true (is_reserved (argument arguments 0)) parts.1
 
 no_rules : (variables : List Variable) (rules : List Rule) → rules ≡ [] → list_all (is_rule variables) rules ≡ true
 no_rules variables rules none = ap (list_all (is_rule variables)) none
@@ -352,7 +341,7 @@ value_sound (name ∷ first ∷ second ∷ third ∷ more) costs some most count
 
 count_of_words : (arguments : List (List ℕ)) (costs : ℕ) → not ((length arguments == costs + 1) && is_name (argument arguments 0)) ≡ false → length arguments ≡ costs + 1
 count_of_words arguments costs h =
-    let all = false_not ((length arguments == costs + 1) && is_name (argument arguments 0)) h in
+    let all = not-false ((length arguments == costs + 1) && is_name (argument arguments 0)) h in
     let parts = both_true_parts (length arguments == costs + 1) (is_name (argument arguments 0)) all in
     let equal = parts.0 in
     grind (arith, nat_tests)
@@ -367,7 +356,7 @@ given_value given arguments s a =
     let few : length (value_names o.variable) < 64 = below_limit 64 (length (value_names o.variable)) (rw o.is at a.few) in
     let fewer : length o.variable.values < 64 = omega (arith, few, length-map o.variable.values (λ (v : Value). v.name)) in
     let one : is_value (length given.costs) value ≡ true =
-    value_sound arguments (length given.costs) o.some_cost s.costs_at_most (count_of_words arguments (length given.costs) a.form) (false_not (list_all is_cost_text (drop 1 arguments)) a.numbers) in
+    value_sound arguments (length given.costs) o.some_cost s.costs_at_most (count_of_words arguments (length given.costs) a.form) (not-false (list_all is_cost_text (drop 1 arguments)) a.numbers) in
     let new : list_any (same_spelling value.name) (value_names o.variable) ≡ false = rw o.is at a.new in
     let before : variables_given given ≡ given.closed ++ o.variable ∷ [] = ap (λ v. given.closed ++ option_to_list v) o.is in
     let after : given.closed ++ option_to_list (option_map (with_value value) given.open_variable) ≡ given.closed ++ variable ∷ [] = ap (λ v. given.closed ++ option_to_list v) opened in
