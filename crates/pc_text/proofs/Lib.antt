@@ -1,5 +1,7 @@
 pub mod CountLemmas
+pub mod Depth
 pub mod FaultLemmas
+pub mod GrammarComplete
 pub mod GrammarSound
 pub mod Levels
 pub mod LineLemmas
@@ -10,9 +12,10 @@ pub mod PhraseLemmas
 pub mod Positions
 pub mod Readers
 pub mod RuleFolds
-pub mod RuleKeeps
+pub mod RuleRead
 pub mod Shallow
 pub mod SoundText
 pub mod Spelled
+pub mod Spellers
 pub mod TokenLemmas
 pub mod Turns

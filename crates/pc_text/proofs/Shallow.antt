@@ -1,16 +1,14 @@
--- In a rule that is read no more parentheses nest than in its text.
-use Rattle.std.proofs.Common.{◌≡◌, ℕ, ◌+◌, ◌-◌, ◌≤◌, true, false, cond, nat_le, nat_lt, List, [], ◌∷◌, ◌++◌, map, codes, Ok, max, refl, sym, ap, ◌∙◌, arith, append_assoc}
-use Rattle.std.specs.List.{list_all}
+-- The printed form of a rule that is read opens no more parentheses at once than the text did.
+use Rattle.std.proofs.Common.{◌≡◌, ℕ, suc, ◌+◌, ◌-◌, ◌≤◌, ◌<◌, nat_le, nat_lt, max, Bool, true, false, cond, ◌||◌, List, [], ◌∷◌, ◌++◌, length, codes, map, Ok, refl, sym, ap, subst, ◌∙◌, arith}
 use Rattle.std.specs.Option.{unwrap_or}
-use Rattle.std.proofs.lemmas.Bool.Decides.{nat_tests}
-use Rattle.std.proofs.lemmas.List.{append-nil}
-use Rattle.pc_base.proofs.DistinctLemmas.{both_false_parts}
+use Rattle.std.specs.List.{list_all}
+use Rattle.std.proofs.lemmas.Bool.{or_parts, and_from, ltb-false, le-ltb, le-leb, leb-true}
 use Rattle.pc_file.specs.declared.catalogue.Catalogue.{Catalogue}
 use Rattle.pc_file.specs.declared.rule.Rule.{Rule}
 use Rattle.pc_file.specs.declared.rule.Rule.TheVariants as rule
-use Rattle.pc_file.specs.Limits.{is_shallow}
 use Rattle.pc_file.specs.Nesting.{Nesting, nesting, nesting_step, open_in_place, open_in_places}
-use Rattle.pc_file.proofs.NestingLemmas.{nat_le-max, within-places, nesting-And, nesting-Or, nesting-AtMost}
+use Rattle.pc_file.specs.Limits.{is_shallow}
+use Rattle.pc_file.proofs.NestingLemmas.{within-places, nesting-And, nesting-Or, nesting-AtMost}
 use Rattle.pc_text.specs.declared.phrase.Phrase.{Phrase}
 use Rattle.pc_text.specs.declared.phrase.Phrase.TheVariants as phrase
 use Rattle.pc_text.specs.declared.token.Sign.TheVariants.{Arrow, NotEqual, Equal, Open, Close, OpenBrace, CloseBrace, Comma}
@@ -19,321 +17,180 @@ use Rattle.pc_text.specs.declared.token.Token.TheVariants.{Mark, Word}
 use Rattle.pc_text.specs.Outcome.{Outcome, ◌>>=◌}
 use Rattle.pc_text.specs.Counts.{count_of}
 use Rattle.pc_text.specs.Token.{one_if_open, one_if_closed, is_deep_after, is_too_deep}
-use Rattle.pc_text.specs.Naming.{all_ok, variable_at, value_at, values_at, variables_at, rows_at, named_step, rule_named}
+use Rattle.pc_text.specs.Naming.{variable_at, value_at, variables_at, values_at, rows_at, all_ok, named_step, rule_named}
 use Rattle.pc_text.specs.Grammar.{parted, alone_word, Spells, SpellsEach}
 use Rattle.pc_text.specs.Grammar as grammar
-use Rattle.pc_text.proofs.PhraseFolds as of_phrase
-use Rattle.pc_text.proofs.RuleFolds as of_rule
 use Rattle.pc_text.proofs.Positions.{bind_ok, the_ok}
 use Rattle.pc_text.proofs.PhraseLemmas.{rule_named-And, rule_named-Or, rule_named-AtMost}
+use Rattle.pc_text.proofs.PhraseFolds as of_phrase
+use Rattle.pc_text.proofs.RuleFolds as of_rule
+use Rattle.pc_text.proofs.Depth.{opens, closes, same_deep, deep-append, deep-shift, balanced}
 
--- ---- the rule that a phrase names, by its form
+-- a rule that binds enough stands by itself
+enough : (asked strength count most : ℕ) → asked ≤ strength → count ≤ most → open_in_place asked (record { strength = strength; open_at_most = count }) ≤ most
+enough asked strength count most binds few = subst (λ b. cond b (count + 1) count ≤ most) (sym (le-ltb strength asked binds)) few
 
-module _ (names : Catalogue) where
-  named-Is : (v a : List ℕ) (r : Rule) → rule_named names (phrase.Is v a) ≡ Ok r → (i : ℕ) × (j : ℕ) × (r ≡ rule.Is i j)
-  named-Is v a r e =
-      let form : rule_named names (phrase.Is v a) ≡ (variable_at names v >>= λ i. value_at names i a >>= λ j. Ok (rule.Is i j)) =
-      of_phrase.fold-Is (Outcome Rule) (named_step names) v a in
-      let one = bind_ok (variable_at names v) (λ i. value_at names i a >>= λ j. Ok (rule.Is i j)) r (sym form ∙ e) in
-      let two = bind_ok (value_at names one.0 a) (λ j. Ok (rule.Is one.0 j)) r one.2 in
-      (one.0, two.0, sym (the_ok _ r two.2))
-
-  named-IsNot : (v a : List ℕ) (r : Rule) → rule_named names (phrase.IsNot v a) ≡ Ok r → (i : ℕ) × (j : ℕ) × (r ≡ rule.IsNot i j)
-  named-IsNot v a r e =
-      let form : rule_named names (phrase.IsNot v a) ≡ (variable_at names v >>= λ i. value_at names i a >>= λ j. Ok (rule.IsNot i j)) =
-      of_phrase.fold-IsNot (Outcome Rule) (named_step names) v a in
-      let one = bind_ok (variable_at names v) (λ i. value_at names i a >>= λ j. Ok (rule.IsNot i j)) r (sym form ∙ e) in
-      let two = bind_ok (value_at names one.0 a) (λ j. Ok (rule.IsNot one.0 j)) r one.2 in
-      (one.0, two.0, sym (the_ok _ r two.2))
-
-  named-OneOf : (v : List ℕ) (these : List (List ℕ)) (r : Rule) → rule_named names (phrase.OneOf v these) ≡ Ok r → (i : ℕ) × (js : List ℕ) × (r ≡ rule.OneOf i js)
-  named-OneOf v these r e =
-      let form : rule_named names (phrase.OneOf v these) ≡ (variable_at names v >>= λ i. values_at names i these >>= λ js. Ok (rule.OneOf i js)) =
-      of_phrase.fold-OneOf (Outcome Rule) (named_step names) v these in
-      let one = bind_ok (variable_at names v) (λ i. values_at names i these >>= λ js. Ok (rule.OneOf i js)) r (sym form ∙ e) in
-      let two = bind_ok (values_at names one.0 these) (λ js. Ok (rule.OneOf one.0 js)) r one.2 in
-      (one.0, two.0, sym (the_ok _ r two.2))
-
-  named-Same : (v w : List ℕ) (r : Rule) → rule_named names (phrase.Same v w) ≡ Ok r → (i : ℕ) × (j : ℕ) × (r ≡ rule.Same i j)
-  named-Same v w r e =
-      let form : rule_named names (phrase.Same v w) ≡ (variable_at names v >>= λ i. variable_at names w >>= λ j. Ok (rule.Same i j)) =
-      of_phrase.fold-Same (Outcome Rule) (named_step names) v w in
-      let one = bind_ok (variable_at names v) (λ i. variable_at names w >>= λ j. Ok (rule.Same i j)) r (sym form ∙ e) in
-      let two = bind_ok (variable_at names w) (λ j. Ok (rule.Same one.0 j)) r one.2 in
-      (one.0, two.0, sym (the_ok _ r two.2))
-
-  named-Table : (vs : List (List ℕ)) (rows : List (List (List ℕ))) (r : Rule) → rule_named names (phrase.Table vs rows) ≡ Ok r → (is : List ℕ) × (js : List (List ℕ)) × (r ≡ rule.Table is js)
-  named-Table vs rows r e =
-      let form : rule_named names (phrase.Table vs rows) ≡ (variables_at names vs >>= λ is. rows_at names is rows >>= λ js. Ok (rule.Table is js)) =
-      of_phrase.fold-Table (Outcome Rule) (named_step names) vs rows in
-      let one = bind_ok (variables_at names vs) (λ is. rows_at names is rows >>= λ js. Ok (rule.Table is js)) r (sym form ∙ e) in
-      let two = bind_ok (rows_at names one.0 rows) (λ js. Ok (rule.Table one.0 js)) r one.2 in
-      (one.0, two.0, sym (the_ok _ r two.2))
-
-  named-Not : (p : Phrase) (r : Rule) → rule_named names (phrase.Not p) ≡ Ok r → (q : Rule) × (rule_named names p ≡ Ok q) × (r ≡ rule.Not q)
-  named-Not p r e =
-      let form : rule_named names (phrase.Not p) ≡ (rule_named names p >>= λ q. Ok (rule.Not q)) =
-      of_phrase.fold-Not (Outcome Rule) (named_step names) p in
-      let one = bind_ok (rule_named names p) (λ q. Ok (rule.Not q)) r (sym form ∙ e) in
-      (one.0, one.1, sym (the_ok _ r one.2))
-
-  named-Implies : (p q : Phrase) (r : Rule) → rule_named names (phrase.Implies p q) ≡ Ok r → (a : Rule) × (b : Rule) × (rule_named names p ≡ Ok a) × (rule_named names q ≡ Ok b) × (r ≡ rule.Implies a b)
-  named-Implies p q r e =
-      let form : rule_named names (phrase.Implies p q) ≡ (rule_named names p >>= λ a. rule_named names q >>= λ b. Ok (rule.Implies a b)) =
-      of_phrase.fold-Implies (Outcome Rule) (named_step names) p q in
-      let one = bind_ok (rule_named names p) (λ a. rule_named names q >>= λ b. Ok (rule.Implies a b)) r (sym form ∙ e) in
-      let two = bind_ok (rule_named names q) (λ b. Ok (rule.Implies one.0 b)) r one.2 in
-      (one.0, two.0, one.1, two.1, sym (the_ok _ r two.2))
-
-  named-And : (ps : List Phrase) (r : Rule) → rule_named names (phrase.And ps) ≡ Ok r → (rs : List Rule) × (all_ok (map (rule_named names) ps) ≡ Ok rs) × (r ≡ rule.And rs)
-  named-And ps r e =
-      let one = bind_ok (all_ok (map (rule_named names) ps)) (λ rs. Ok (rule.And rs)) r (sym (rule_named-And names ps) ∙ e) in
-      (one.0, one.1, sym (the_ok _ r one.2))
-
-  named-Or : (ps : List Phrase) (r : Rule) → rule_named names (phrase.Or ps) ≡ Ok r → (rs : List Rule) × (all_ok (map (rule_named names) ps) ≡ Ok rs) × (r ≡ rule.Or rs)
-  named-Or ps r e =
-      let one = bind_ok (all_ok (map (rule_named names) ps)) (λ rs. Ok (rule.Or rs)) r (sym (rule_named-Or names ps) ∙ e) in
-      (one.0, one.1, sym (the_ok _ r one.2))
-
-  named-AtMost : (most : List ℕ) (ps : List Phrase) (r : Rule) → rule_named names (phrase.AtMost most ps) ≡ Ok r →
-      (rs : List Rule) × (all_ok (map (rule_named names) ps) ≡ Ok rs) × (r ≡ rule.AtMost (unwrap_or (count_of most) 0) rs)
-  named-AtMost most ps r e =
-      let one = bind_ok (all_ok (map (rule_named names) ps)) (λ rs. Ok (rule.AtMost (unwrap_or (count_of most) 0) rs)) r (sym (rule_named-AtMost names most ps) ∙ e) in
-      (one.0, one.1, sym (the_ok _ r one.2))
-
-  -- the first of several
-  named-each : (p : Phrase) (ps : List Phrase) (rs : List Rule) → all_ok (rule_named names p ∷ map (rule_named names) ps) ≡ Ok rs →
-      (q : Rule) × (qs : List Rule) × (rule_named names p ≡ Ok q) × (all_ok (map (rule_named names) ps) ≡ Ok qs) × (rs ≡ q ∷ qs)
-  named-each p ps rs e =
-      let one = bind_ok (rule_named names p) (λ q. all_ok (map (rule_named names) ps) >>= λ qs. Ok (q ∷ qs)) rs e in
-      let two = bind_ok (all_ok (map (rule_named names) ps)) (λ qs. Ok (one.0 ∷ qs)) rs one.2 in
-      (one.0, two.0, one.1, two.1, sym (the_ok _ rs two.2))
-
--- ---- the parentheses of a rule, by its form
-
-nesting-Is : (i j : ℕ) → nesting (rule.Is i j) ≡ record { strength = 4; open_at_most = 0 }
-nesting-Is i j = of_rule.fold-Is Nesting nesting_step i j
-
-nesting-IsNot : (i j : ℕ) → nesting (rule.IsNot i j) ≡ record { strength = 4; open_at_most = 0 }
-nesting-IsNot i j = of_rule.fold-IsNot Nesting nesting_step i j
-
-nesting-OneOf : (i : ℕ) (js : List ℕ) → nesting (rule.OneOf i js) ≡ record { strength = 4; open_at_most = 0 }
-nesting-OneOf i js = of_rule.fold-OneOf Nesting nesting_step i js
-
-nesting-Same : (i j : ℕ) → nesting (rule.Same i j) ≡ record { strength = 4; open_at_most = 1 }
-nesting-Same i j = of_rule.fold-Same Nesting nesting_step i j
-
-nesting-Table : (is : List ℕ) (rows : List (List ℕ)) → nesting (rule.Table is rows) ≡ record { strength = 4; open_at_most = 1 }
-nesting-Table is rows = of_rule.fold-Table Nesting nesting_step is rows
-
-nesting-Not : (q : Rule) → nesting (rule.Not q) ≡ record { strength = 3; open_at_most = open_in_place 4 (nesting q) }
-nesting-Not q = of_rule.fold-Not Nesting nesting_step q
-
-nesting-Implies : (a b : Rule) → nesting (rule.Implies a b) ≡ record { strength = 0; open_at_most = max (open_in_place 1 (nesting a)) (open_in_place 1 (nesting b)) }
-nesting-Implies a b = of_rule.fold-Implies Nesting nesting_step a b
-
--- ---- parentheses that are open between tokens
-
--- so many more may be opened before the tokens, and they keep the limit
-record Fits (limit room : ℕ) (tokens : List Token) : Type 0 where
-  opened : ℕ
-  closed : ℕ
-  left : opened + room ≡ closed + limit
-  kept : is_deep_after limit opened closed tokens ≡ false
-
--- a token that is no parenthesis
-abbrev IsPlain : Token → Type 0
-IsPlain token = (one_if_open token ≡ 0) × (one_if_closed token ≡ 0)
-
-module _ (limit room : ℕ) where
-  fits_token : (token : Token) (rest : List Token) (opened closed : ℕ) → is_deep_after limit opened closed (token ∷ rest) ≡ false →
-      (opened + one_if_open token ≤ closed + one_if_closed token + limit) × (is_deep_after limit (opened + one_if_open token) (closed + one_if_closed token) rest ≡ false)
-  fits_token token rest opened closed kept =
-      let parts = both_false_parts (nat_lt (closed + one_if_closed token + limit) (opened + one_if_open token)) (is_deep_after limit (opened + one_if_open token) (closed + one_if_closed token) rest) kept in
-      (not_less (closed + one_if_closed token + limit) (opened + one_if_open token) parts.0, parts.1)
-    where
-      not_less : (m n : ℕ) → nat_lt m n ≡ false → n ≤ m
-      not_less m n h = grind (arith, nat_tests)
-
-  fits_plain : (token : Token) (rest : List Token) → IsPlain token → Fits limit room (token ∷ rest) → Fits limit room rest
-  fits_plain token rest plain f =
-      let next = fits_token token rest f.opened f.closed f.kept in
-      record { opened = f.opened + one_if_open token; closed = f.closed + one_if_closed token; left = omega (arith, f.left, plain.0, plain.1); kept = next.1 }
-
-  fits_open : (rest : List Token) → Fits limit room (Mark Open ∷ rest) → (inner : ℕ) × (room ≡ inner + 1) × Fits limit inner rest
-  fits_open rest f =
-      let next = fits_token (Mark Open) rest f.opened f.closed f.kept in
-      let some : 1 ≤ room = omega (arith, f.left, next.0) in
-      (room - 1, omega arith, record { opened = f.opened + 1; closed = f.closed + 0; left = omega (arith, f.left); kept = next.1 })
-
-  fits_close : (outer : ℕ) (rest : List Token) → outer ≡ room + 1 → Fits limit room (Mark Close ∷ rest) → Fits limit outer rest
-  fits_close outer rest is f =
-      let next = fits_token (Mark Close) rest f.opened f.closed f.kept in
-      record { opened = f.opened + 0; closed = f.closed + 1; left = omega (arith, f.left); kept = next.1 }
-
-  regrouped : (front back rest : List Token) → Fits limit room ((front ++ back) ++ rest) → Fits limit room (front ++ (back ++ rest))
-  regrouped front back rest f = rw append_assoc at f
-
-  fits_words : (words : List (List ℕ)) (rest : List Token) → Fits limit room (map Word words ++ rest) → Fits limit room rest
-  fits_words [] rest f = f
-  fits_words (word ∷ words) rest f = fits_words words rest (fits_plain (Word word) (map Word words ++ rest) (refl, refl) f)
-
-  -- what follows the first of several texts
-  abbrev part_tail : Token → List (List Token) → List Token → List Token
-  part_tail token [] rest = rest
-  part_tail token (text ∷ texts) rest = token ∷ parted token (text ∷ texts) ++ rest
-
-  first_part : (token : Token) (text : List Token) (texts : List (List Token)) (rest : List Token) → Fits limit room (parted token (text ∷ texts) ++ rest) → Fits limit room (text ++ part_tail token texts rest)
-  first_part token text [] rest f = f
-  first_part token text (next ∷ texts) rest f = regrouped text (token ∷ parted token (next ∷ texts)) rest f
-
-  after_part : (token : Token) (texts : List (List Token)) (rest : List Token) → IsPlain token → Fits limit room (part_tail token texts rest) → Fits limit room (parted token texts ++ rest)
-  after_part token [] rest plain f = f
-  after_part token (text ∷ texts) rest plain f = fits_plain token (parted token (text ∷ texts) ++ rest) plain f
-
-  -- texts without parentheses
-  fits_parted : {A : Type 0} (text : A → List Token) → ((a : A) (rest : List Token) → Fits limit room (text a ++ rest) → Fits limit room rest) → (all : List A) (rest : List Token) →
-      Fits limit room (parted (Mark Comma) (map text all) ++ rest) → Fits limit room rest
-  fits_parted text one [] rest f = f
-  fits_parted text one (a ∷ all) rest f =
-      fits_parted text one all rest (after_part (Mark Comma) (map text all) rest (refl, refl) (one a (part_tail (Mark Comma) (map text all) rest) (first_part (Mark Comma) (text a) (map text all) rest f)))
-
-  fits_listed : (words : List (List ℕ)) (rest : List Token) → Fits limit room (parted (Mark Comma) (map alone_word words) ++ rest) → Fits limit room rest
-  fits_listed = fits_parted alone_word (λ word rest f. fits_plain (Word word) rest (refl, refl) f)
-
-  fits_rows : (rows : List (List (List ℕ))) (rest : List Token) → Fits limit room (parted (Mark Comma) (map (map Word) rows) ++ rest) → Fits limit room rest
-  fits_rows = fits_parted (map Word) fits_words
-
--- ---- rules within the parentheses of their texts
-
-within_form : (r : Rule) (n : Nesting) (place room : ℕ) → nesting r ≡ n → place ≤ n.strength → nat_le n.open_at_most room ≡ true → nat_le (open_in_place place (nesting r)) room ≡ true
-within_form r n place room is strong within = ap (λ m. nat_le (open_in_place place m) room) is ∙ by n.strength n.open_at_most strong within
+-- and in any place it takes one more at most
+in_any_place : (asked : ℕ) (n : Nesting) (most : ℕ) → open_in_place 0 n ≤ most → open_in_place asked n ≤ suc most
+in_any_place asked n most few =
+    let alone : n.open_at_most ≤ most = subst (λ b. cond b (n.open_at_most + 1) n.open_at_most ≤ most) (le-ltb n.strength 0 (omega arith)) few in
+    by (nat_lt n.strength asked) alone
   where
-    by : (strength deep : ℕ) → place ≤ strength → nat_le deep room ≡ true → nat_le (cond (nat_lt strength place) (deep + 1) deep) room ≡ true
-    by strength deep strong within = grind (arith, nat_tests)
+    by : (b : Bool) → n.open_at_most ≤ most → cond b (n.open_at_most + 1) n.open_at_most ≤ suc most
+    by true alone = omega arith
+    by false alone = omega arith
 
--- in one pair of parentheses
-within_more : (n : Nesting) (place inner room : ℕ) → room ≡ inner + 1 → nat_le (open_in_place 0 n) inner ≡ true → nat_le (open_in_place place n) room ≡ true
-within_more n place inner room is within = by n.strength n.open_at_most within
-  where
-    by : (strength deep : ℕ) → nat_le (cond (nat_lt strength 0) (deep + 1) deep) inner ≡ true → nat_le (cond (nat_lt strength place) (deep + 1) deep) room ≡ true
-    by strength deep h = grind (arith, nat_tests)
+module _ (limit : ℕ) where
+  -- the part that comes first, and the part that comes next
+  pub parts : (ts us : List Token) (o c : ℕ) → opens ts ≡ closes ts → is_deep_after limit o c (ts ++ us) ≡ false → (is_deep_after limit o c ts ≡ false) × (is_deep_after limit o c us ≡ false)
+  parts ts us o c same flat =
+      let p = or_parts (is_deep_after limit o c ts) (is_deep_after limit (o + opens ts) (c + closes ts) us) (sym (deep-append limit ts us o c) ∙ flat) in
+      let shift : is_deep_after limit (o + opens ts) (c + closes ts) us ≡ is_deep_after limit o c us =
+      ap (λ n. is_deep_after limit (o + opens ts) (c + n) us) (sym same) ∙ deep-shift limit (opens ts) us o c in
+      (p.0, sym shift ∙ p.1)
 
-one_within : (inner room : ℕ) → room ≡ inner + 1 → nat_le 1 room ≡ true
-one_within inner room is = grind (arith, nat_tests)
+  pub first_part : (ts us : List Token) (o c : ℕ) → is_deep_after limit o c (ts ++ us) ≡ false → is_deep_after limit o c ts ≡ false
+  first_part ts us o c flat = (or_parts (is_deep_after limit o c ts) (is_deep_after limit (o + opens ts) (c + closes ts) us) (sym (deep-append limit ts us o c) ∙ flat)).0
 
-more_within : (deep inner room : ℕ) → room ≡ inner + 1 → nat_le deep inner ≡ true → nat_le (deep + 1) room ≡ true
-more_within deep inner room is within = grind (arith, nat_tests)
+  -- after a token that is no parenthesis
+  pub past_token : (token : Token) (ts : List Token) (o c : ℕ) → one_if_open token ≡ 0 → one_if_closed token ≡ 0 → is_deep_after limit o c (token ∷ ts) ≡ false → is_deep_after limit o c ts ≡ false
+  past_token token ts o c e f flat =
+      let p = or_parts (nat_lt (c + one_if_closed token + limit) (o + one_if_open token)) (is_deep_after limit (o + one_if_open token) (c + one_if_closed token) ts) flat in
+      same_deep limit ts o (o + one_if_open token) c (c + one_if_closed token) (omega (arith, e)) (omega (arith, f)) ∙ p.1
 
-zero_within : (room : ℕ) → nat_le 0 room ≡ true
-zero_within room = grind (arith, nat_tests)
+  -- after an opening one, for which there is room
+  pub opened : (ts : List Token) (o c : ℕ) → is_deep_after limit o c (Mark Open ∷ ts) ≡ false → (suc o ≤ c + limit) × (is_deep_after limit (suc o) c ts ≡ false)
+  opened ts o c flat =
+      let p = or_parts (nat_lt (c + 0 + limit) (o + 1)) (is_deep_after limit (o + 1) (c + 0) ts) flat in
+      let room = ltb-false (c + 0 + limit) (o + 1) p.0 in
+      (omega (arith, room), same_deep limit ts (suc o) (o + 1) c (c + 0) (omega arith) (omega arith) ∙ p.1)
 
-both_within : (a b room : ℕ) → nat_le a room ≡ true → nat_le b room ≡ true → nat_le (max a b) room ≡ true
-both_within a b room ha hb = nat_le-max a b room ∙ rw (ha, hb) refl
+  -- the first text, and the others
+  pub split : (text : List Token) (texts : List (List Token)) (between : Token) → one_if_open between ≡ 0 → one_if_closed between ≡ 0 → (o c : ℕ) → opens text ≡ closes text → is_deep_after limit o c (parted between (text ∷ texts)) ≡ false →
+      (is_deep_after limit o c text ≡ false) × (is_deep_after limit o c (parted between texts) ≡ false)
+  split text [] between apart apart_too o c same flat = (flat, refl)
+  split text (next ∷ texts) between apart apart_too o c same flat =
+      let two = parts text (between ∷ parted between (next ∷ texts)) o c same flat in
+      (two.0, past_token between (parted between (next ∷ texts)) o c apart apart_too two.1)
 
-module _ (limit : ℕ) (names : Catalogue) where
-  -- a rule in its place
-  abbrev Within : ℕ → Rule → ℕ → List Token → Type 0
-  Within place r room rest = (nat_le (open_in_place place (nesting r)) room ≡ true) × Fits limit room rest
+  module _ (names : Catalogue) where
+    -- rules of no rules
+    flat_rule : (place most : ℕ) (r : Rule) → place ≤ 4 → nesting r ≡ record { strength = 4; open_at_most = 0 } → open_in_place place (nesting r) ≤ most
+    flat_rule place most r low is = subst (λ n. open_in_place place n ≤ most) (sym is) (enough place 4 0 most low (omega arith))
 
-  abbrev EachWithin : ℕ → List Rule → ℕ → List Token → Type 0
-  EachWithin place rs room rest = (list_all (λ r. nat_le (open_in_place place (nesting r)) room) rs ≡ true) × Fits limit room rest
+    round_rule : (place most : ℕ) (r : Rule) → place ≤ 4 → 1 ≤ most → nesting r ≡ record { strength = 4; open_at_most = 1 } → open_in_place place (nesting r) ≤ most
+    round_rule place most r low room is = subst (λ n. open_in_place place n ≤ most) (sym is) (enough place 4 1 most low room)
 
-  mutual
-    shallow : {place : ℕ} {p : Phrase} {text : List Token} → Spells place p text → place ≤ 4 → (r : Rule) → rule_named names p ≡ Ok r → (room : ℕ) (rest : List Token) → Fits limit room (text ++ rest) → Within place r room rest
-    shallow (grammar.parentheses place {text = text} s) small r named room rest f =
-        let o = fits_open limit room (text ++ (Mark Close ∷ rest)) (regrouped limit room (Mark Open ∷ text) (Mark Close ∷ []) rest f) in
-        let inner = shallow s (omega arith) r named o.0 (Mark Close ∷ rest) o.2 in
-        (within_more (nesting r) place o.0 room o.1 inner.0, fits_close limit o.0 room rest o.1 inner.1)
-    shallow (grammar.is place v a free) small r named room rest f =
-        let form = named-Is names v a r named in
-        let one = fits_plain limit room (Word v) (Mark Equal ∷ Word a ∷ rest) (refl, refl) f in
-        let two = fits_plain limit room (Mark Equal) (Word a ∷ rest) (refl, refl) one in
-        (within_form r _ place room (ap nesting form.2 ∙ nesting-Is form.0 form.1) small (zero_within room), fits_plain limit room (Word a) rest (refl, refl) two)
-    shallow (grammar.is_not place v a free) small r named room rest f =
-        let form = named-IsNot names v a r named in
-        let one = fits_plain limit room (Word v) (Mark NotEqual ∷ Word a ∷ rest) (refl, refl) f in
-        let two = fits_plain limit room (Mark NotEqual) (Word a ∷ rest) (refl, refl) one in
-        (within_form r _ place room (ap nesting form.2 ∙ nesting-IsNot form.0 form.1) small (zero_within room), fits_plain limit room (Word a) rest (refl, refl) two)
-    shallow (grammar.one_of place v values free some) small r named room rest f =
-        let form = named-OneOf names v values r named in
-        let words = parted (Mark Comma) (map alone_word values) in
-        let tail : List Token = Mark CloseBrace ∷ rest in
-        let whole = regrouped limit room (Word v ∷ Word (codes "in") ∷ Mark OpenBrace ∷ words) (Mark CloseBrace ∷ []) rest f in
-        let one = fits_plain limit room (Word v) (Word (codes "in") ∷ Mark OpenBrace ∷ (words ++ tail)) (refl, refl) whole in
-        let two = fits_plain limit room (Word (codes "in")) (Mark OpenBrace ∷ (words ++ tail)) (refl, refl) one in
-        let three = fits_listed limit room values tail (fits_plain limit room (Mark OpenBrace) (words ++ tail) (refl, refl) two) in
-        (within_form r _ place room (ap nesting form.2 ∙ nesting-OneOf form.0 form.1) small (zero_within room), fits_plain limit room (Mark CloseBrace) rest (refl, refl) three)
-    shallow (grammar.not {place = place} {rule = p} {text = text} weak s) small r named room rest f =
-        let form = named-Not names p r named in
-        let inner = shallow s (omega arith) form.0 form.1 room rest (fits_plain limit room (Word (codes "not")) (text ++ rest) (refl, refl) f) in
-        (within_form r _ place room (ap nesting form.2 ∙ nesting-Not form.0) weak inner.0, inner.1)
-    shallow (grammar.and {place = place} {rules = ps} weak two each) small r named room rest f =
-        let form = named-And names ps r named in
-        let inner = shallow_each each (omega arith) form.0 form.1 (Word (codes "and")) (refl, refl) room rest f in
-        (within_form r _ place room (ap nesting form.2 ∙ nesting-And form.0) weak (within-places 3 room form.0 ∙ inner.0), inner.1)
-    shallow (grammar.or {place = place} {rules = ps} weak two each) small r named room rest f =
-        let form = named-Or names ps r named in
-        let inner = shallow_each each (omega arith) form.0 form.1 (Word (codes "or")) (refl, refl) room rest f in
-        (within_form r _ place room (ap nesting form.2 ∙ nesting-Or form.0) weak (within-places 2 room form.0 ∙ inner.0), inner.1)
-    shallow (grammar.implies {place = place} {premise = p} {conclusion = q} {text = text} {next = next} weak s t) small r named room rest f =
-        let form = named-Implies names p q r named in
-        let one = shallow s (omega arith) form.0 form.2 room (Mark Arrow ∷ (next ++ rest)) (regrouped limit room text (Mark Arrow ∷ next) rest f) in
-        let two = shallow t (omega arith) form.1 form.3 room rest (fits_plain limit room (Mark Arrow) (next ++ rest) (refl, refl) one.1) in
-        (within_form r _ place room (ap nesting form.4 ∙ nesting-Implies form.0 form.1) weak (both_within _ _ room one.0 two.0), two.1)
-    shallow (grammar.same place v w free free_too) small r named room rest f =
-        let form = named-Same names v w r named in
-        let one = fits_plain limit room (Word (codes "same")) (Mark Open ∷ Word v ∷ Mark Comma ∷ Word w ∷ Mark Close ∷ rest) (refl, refl) f in
-        let o = fits_open limit room (Word v ∷ Mark Comma ∷ Word w ∷ Mark Close ∷ rest) one in
-        let two = fits_plain limit o.0 (Word v) (Mark Comma ∷ Word w ∷ Mark Close ∷ rest) (refl, refl) o.2 in
-        let three = fits_plain limit o.0 (Mark Comma) (Word w ∷ Mark Close ∷ rest) (refl, refl) two in
-        let four = fits_plain limit o.0 (Word w) (Mark Close ∷ rest) (refl, refl) three in
-        (within_form r _ place room (ap nesting form.2 ∙ nesting-Same form.0 form.1) small (one_within o.0 room o.1), fits_close limit o.0 room rest o.1 four)
-    shallow (grammar.at_most place most {rules = ps} {texts = texts} some each) small r named room rest f =
-        let form = named-AtMost names most ps r named in
-        let words = parted (Mark Comma) texts in
-        let tail : List Token = Mark Close ∷ rest in
-        let whole = regrouped limit room (Word (codes "atmost") ∷ Word most ∷ Mark Open ∷ words) (Mark Close ∷ []) rest f in
-        let one = fits_plain limit room (Word (codes "atmost")) (Word most ∷ Mark Open ∷ (words ++ tail)) (refl, refl) whole in
-        let o = fits_open limit room (words ++ tail) (fits_plain limit room (Word most) (Mark Open ∷ (words ++ tail)) (refl, refl) one) in
-        let inner = shallow_each each (omega arith) form.0 form.1 (Mark Comma) (refl, refl) o.0 tail o.2 in
-        let deep : nat_le (open_in_places 0 (map nesting form.0)) o.0 ≡ true = within-places 0 o.0 form.0 ∙ inner.0 in
-        (within_form r _ place room (ap nesting form.2 ∙ nesting-AtMost (unwrap_or (count_of most) 0) form.0) small (more_within _ o.0 room o.1 deep), fits_close limit o.0 room rest o.1 inner.1)
-    shallow (grammar.table place vs rows some free some_rows are_rows long) small r named room rest f =
-        let form = named-Table names vs rows r named in
-        let words = parted (Mark Comma) (map alone_word vs) in
-        let lines = parted (Mark Comma) (map (map Word) rows) in
-        let tail : List Token = Mark CloseBrace ∷ rest in
-        let after : List Token = Mark OpenBrace ∷ (lines ++ tail) in
-        let back = regrouped limit room ((Word (codes "table") ∷ Mark Open ∷ words) ++ (Mark Close ∷ Mark OpenBrace ∷ lines)) (Mark CloseBrace ∷ []) rest f in
-        let whole = regrouped limit room (Word (codes "table") ∷ Mark Open ∷ words) (Mark Close ∷ Mark OpenBrace ∷ lines) tail back in
-        let o = fits_open limit room (words ++ (Mark Close ∷ after)) (fits_plain limit room (Word (codes "table")) (Mark Open ∷ (words ++ (Mark Close ∷ after))) (refl, refl) whole) in
-        let two = fits_close limit o.0 room after o.1 (fits_listed limit o.0 vs (Mark Close ∷ after) o.2) in
-        let three = fits_rows limit room rows tail (fits_plain limit room (Mark OpenBrace) (lines ++ tail) (refl, refl) two) in
-        (within_form r _ place room (ap nesting form.2 ∙ nesting-Table form.0 form.1) small (one_within o.0 room o.1), fits_plain limit room (Mark CloseBrace) rest (refl, refl) three)
+    nesting_Is : (v a : List ℕ) (r : Rule) → rule_named names (phrase.Is v a) ≡ Ok r → nesting r ≡ record { strength = 4; open_at_most = 0 }
+    nesting_Is v a r e =
+        let s = bind_ok (variable_at names v) (λ variable. value_at names variable a >>= λ value. Ok (rule.Is variable value)) r (sym (of_phrase.fold-Is (Outcome Rule) (named_step names) v a) ∙ e) in
+        let t = bind_ok (value_at names s.0 a) (λ value. Ok (rule.Is s.0 value)) r s.2 in
+        ap nesting (sym (the_ok (rule.Is s.0 t.0) r t.2)) ∙ of_rule.fold-Is Nesting nesting_step s.0 t.0
 
-    shallow_each : {place : ℕ} {ps : List Phrase} {texts : List (List Token)} → SpellsEach place ps texts → place ≤ 4 → (rs : List Rule) → all_ok (map (rule_named names) ps) ≡ Ok rs →
-        (token : Token) → IsPlain token → (room : ℕ) (rest : List Token) → Fits limit room (parted token texts ++ rest) → EachWithin place rs room rest
-    shallow_each (grammar.none place) small rs named token plain room rest f = (ap (list_all (λ r. nat_le (open_in_place place (nesting r)) room)) (no_rules rs named), f)
-      where
-        no_rules : (rs : List Rule) → ◌≡◌ {A = Outcome (List Rule)} (Ok []) (Ok rs) → rs ≡ []
-        no_rules rs e = cc
-    shallow_each (grammar.more {place = place} {rule = p} {text = text} {rules = ps} {texts = texts} s each) small rs named token plain room rest f =
-        let form = named-each names p ps rs named in
-        let one = shallow s small form.0 form.2 room (part_tail limit room token texts rest) (first_part limit room token text texts rest f) in
-        let two = shallow_each each small form.1 form.3 token plain room rest (after_part limit room token texts rest plain one.1) in
-        (ap (list_all (λ r. nat_le (open_in_place place (nesting r)) room)) form.4 ∙ rw (one.0, two.0) refl, two.1)
+    nesting_IsNot : (v a : List ℕ) (r : Rule) → rule_named names (phrase.IsNot v a) ≡ Ok r → nesting r ≡ record { strength = 4; open_at_most = 0 }
+    nesting_IsNot v a r e =
+        let s = bind_ok (variable_at names v) (λ variable. value_at names variable a >>= λ value. Ok (rule.IsNot variable value)) r (sym (of_phrase.fold-IsNot (Outcome Rule) (named_step names) v a) ∙ e) in
+        let t = bind_ok (value_at names s.0 a) (λ value. Ok (rule.IsNot s.0 value)) r s.2 in
+        ap nesting (sym (the_ok (rule.IsNot s.0 t.0) r t.2)) ∙ of_rule.fold-IsNot Nesting nesting_step s.0 t.0
 
--- a rule whose text keeps the limit of parentheses
-pub text_shallow : (names : Catalogue) (p : Phrase) (tokens : List Token) (r : Rule) → Spells 0 p tokens → rule_named names p ≡ Ok r → is_too_deep tokens ≡ false → is_shallow r ≡ true
+    nesting_OneOf : (v : List ℕ) (values : List (List ℕ)) (r : Rule) → rule_named names (phrase.OneOf v values) ≡ Ok r → nesting r ≡ record { strength = 4; open_at_most = 0 }
+    nesting_OneOf v values r e =
+        let s = bind_ok (variable_at names v) (λ variable. values_at names variable values >>= λ these. Ok (rule.OneOf variable these)) r (sym (of_phrase.fold-OneOf (Outcome Rule) (named_step names) v values) ∙ e) in
+        let t = bind_ok (values_at names s.0 values) (λ these. Ok (rule.OneOf s.0 these)) r s.2 in
+        ap nesting (sym (the_ok (rule.OneOf s.0 t.0) r t.2)) ∙ of_rule.fold-OneOf Nesting nesting_step s.0 t.0
+
+    nesting_Same : (v w : List ℕ) (r : Rule) → rule_named names (phrase.Same v w) ≡ Ok r → nesting r ≡ record { strength = 4; open_at_most = 1 }
+    nesting_Same v w r e =
+        let s = bind_ok (variable_at names v) (λ first. variable_at names w >>= λ second. Ok (rule.Same first second)) r (sym (of_phrase.fold-Same (Outcome Rule) (named_step names) v w) ∙ e) in
+        let t = bind_ok (variable_at names w) (λ second. Ok (rule.Same s.0 second)) r s.2 in
+        ap nesting (sym (the_ok (rule.Same s.0 t.0) r t.2)) ∙ of_rule.fold-Same Nesting nesting_step s.0 t.0
+
+    nesting_Table : (vs : List (List ℕ)) (rows : List (List (List ℕ))) (r : Rule) → rule_named names (phrase.Table vs rows) ≡ Ok r → nesting r ≡ record { strength = 4; open_at_most = 1 }
+    nesting_Table vs rows r e =
+        let s = bind_ok (variables_at names vs) (λ these. rows_at names these rows >>= λ found. Ok (rule.Table these found)) r (sym (of_phrase.fold-Table (Outcome Rule) (named_step names) vs rows) ∙ e) in
+        let t = bind_ok (rows_at names s.0 rows) (λ found. Ok (rule.Table s.0 found)) r s.2 in
+        ap nesting (sym (the_ok (rule.Table s.0 t.0) r t.2)) ∙ of_rule.fold-Table Nesting nesting_step s.0 t.0
+
+    -- members in their places
+    in_places : (asked most : ℕ) (rules : List Rule) → list_all (λ r. nat_le (open_in_place asked (nesting r)) most) rules ≡ true → open_in_places asked (map nesting rules) ≤ most
+    in_places asked most rules all = leb-true (open_in_places asked (map nesting rules)) most (within-places asked most rules ∙ all)
+
+    mutual
+      -- with so many parentheses open before, at most so many more
+      pub shallow : {place : ℕ} {p : Phrase} {text : List Token} → Spells place p text → place ≤ 4 → (most o c : ℕ) → most + o ≡ c + limit → is_deep_after limit o c text ≡ false →
+          (r : Rule) → rule_named names p ≡ Ok r → open_in_place place (nesting r) ≤ most
+      shallow (grammar.parentheses place {text = text} s) low most o c sum flat r e =
+          let inside = opened (text ++ Mark Close ∷ []) o c flat in
+          let inner = parts text (Mark Close ∷ []) (suc o) c (balanced s) inside.1 in
+          let less : (most - 1) + suc o ≡ c + limit = omega (arith, sum, inside.0) in
+          let few = in_any_place place (nesting r) (most - 1) (shallow s (omega arith) (most - 1) (suc o) c less inner.0 r e) in
+          omega (arith, few, sum, inside.0)
+      shallow (grammar.is place v a free) low most o c sum flat r e = flat_rule place most r low (nesting_Is v a r e)
+      shallow (grammar.is_not place v a free) low most o c sum flat r e = flat_rule place most r low (nesting_IsNot v a r e)
+      shallow (grammar.one_of place v values free some) low most o c sum flat r e = flat_rule place most r low (nesting_OneOf v values r e)
+      shallow (grammar.same place v w free other) low most o c sum flat r e =
+          let rest = Word v ∷ Mark Comma ∷ Word w ∷ Mark Close ∷ [] in
+          let room = opened rest o c (past_token (Word (codes "same")) (Mark Open ∷ rest) o c refl refl flat) in
+          round_rule place most r low (omega (arith, sum, room.0)) (nesting_Same v w r e)
+      shallow (grammar.table place vs rows some free some_rows are fit) low most o c sum flat r e =
+          let rest = parted (Mark Comma) (map alone_word vs) ++ Mark Close ∷ Mark OpenBrace ∷ parted (Mark Comma) (map (map Word) rows) ++ Mark CloseBrace ∷ [] in
+          let room = opened rest o c (past_token (Word (codes "table")) (Mark Open ∷ rest) o c refl refl flat) in
+          round_rule place most r low (omega (arith, sum, room.0)) (nesting_Table vs rows r e)
+      shallow (grammar.not {place = place} {rule = p} {text = text} at s) low most o c sum flat r e =
+          let b = bind_ok (rule_named names p) (λ inner. Ok (rule.Not inner)) r (sym (of_phrase.fold-Not (Outcome Rule) (named_step names) p) ∙ e) in
+          let few = shallow s (omega arith) most o c sum (past_token (Word (codes "not")) text o c refl refl flat) b.0 b.1 in
+          let is = ap nesting (sym (the_ok (rule.Not b.0) r b.2)) ∙ of_rule.fold-Not Nesting nesting_step b.0 in
+          subst (λ n. open_in_place place n ≤ most) (sym is) (enough place 3 (open_in_place 4 (nesting b.0)) most at few)
+      shallow (grammar.implies {place = place} {premise = p} {conclusion = q} {text = text} {next = next} at s t) low most o c sum flat r e =
+          let b = bind_ok (rule_named names p) (λ premise. rule_named names q >>= λ conclusion. Ok (rule.Implies premise conclusion)) r (sym (of_phrase.fold-Implies (Outcome Rule) (named_step names) p q) ∙ e) in
+          let d = bind_ok (rule_named names q) (λ conclusion. Ok (rule.Implies b.0 conclusion)) r b.2 in
+          let two = parts text (Mark Arrow ∷ next) o c (balanced s) flat in
+          let first = shallow s (omega arith) most o c sum two.0 b.0 b.1 in
+          let second = shallow t (omega arith) most o c sum (past_token (Mark Arrow) next o c refl refl two.1) d.0 d.1 in
+          let is = ap nesting (sym (the_ok (rule.Implies b.0 d.0) r d.2)) ∙ of_rule.fold-Implies Nesting nesting_step b.0 d.0 in
+          let few : max (open_in_place 1 (nesting b.0)) (open_in_place 1 (nesting d.0)) ≤ most = omega (arith, first, second) in
+          subst (λ n. open_in_place place n ≤ most) (sym is) (enough place 0 (max (open_in_place 1 (nesting b.0)) (open_in_place 1 (nesting d.0))) most at few)
+      shallow (grammar.and {place = place} {rules = ps} at two each) low most o c sum flat r e =
+          let b = bind_ok (all_ok (map (rule_named names) ps)) (λ rules. Ok (rule.And rules)) r (sym (rule_named-And names ps) ∙ e) in
+          let all = shallow_each each (omega arith) (Word (codes "and")) refl refl most o c sum flat b.0 b.1 in
+          let is = ap nesting (sym (the_ok (rule.And b.0) r b.2)) ∙ nesting-And b.0 in
+          subst (λ n. open_in_place place n ≤ most) (sym is) (enough place 2 (open_in_places 3 (map nesting b.0)) most at (in_places 3 most b.0 all))
+      shallow (grammar.or {place = place} {rules = ps} at two each) low most o c sum flat r e =
+          let b = bind_ok (all_ok (map (rule_named names) ps)) (λ rules. Ok (rule.Or rules)) r (sym (rule_named-Or names ps) ∙ e) in
+          let all = shallow_each each (omega arith) (Word (codes "or")) refl refl most o c sum flat b.0 b.1 in
+          let is = ap nesting (sym (the_ok (rule.Or b.0) r b.2)) ∙ nesting-Or b.0 in
+          subst (λ n. open_in_place place n ≤ most) (sym is) (enough place 1 (open_in_places 2 (map nesting b.0)) most at (in_places 2 most b.0 all))
+      shallow (grammar.at_most place k {rules = ps} {texts = texts} some each) low most o c sum flat r e =
+          let count = unwrap_or (count_of k) 0 in
+          let b = bind_ok (all_ok (map (rule_named names) ps)) (λ rules. Ok (rule.AtMost count rules)) r (sym (rule_named-AtMost names k ps) ∙ e) in
+          let members = parted (Mark Comma) texts in
+          let inside = opened (members ++ Mark Close ∷ []) o c (past_token (Word k) (Mark Open ∷ members ++ Mark Close ∷ []) o c refl refl (past_token (Word (codes "atmost")) (Word k ∷ Mark Open ∷ members ++ Mark Close ∷ []) o c refl refl flat)) in
+          let first = first_part members (Mark Close ∷ []) (suc o) c inside.1 in
+          let less : (most - 1) + suc o ≡ c + limit = omega (arith, sum, inside.0) in
+          let all = shallow_each each (omega arith) (Mark Comma) refl refl (most - 1) (suc o) c less first b.0 b.1 in
+          let few = in_places 0 (most - 1) b.0 all in
+          let is = ap nesting (sym (the_ok (rule.AtMost count b.0) r b.2)) ∙ nesting-AtMost count b.0 in
+          subst (λ n. open_in_place place n ≤ most) (sym is) (enough place 4 (open_in_places 0 (map nesting b.0) + 1) most low (omega (arith, few, sum, inside.0)))
+
+      shallow_each : {place : ℕ} {ps : List Phrase} {texts : List (List Token)} → SpellsEach place ps texts → place ≤ 4 → (between : Token) → one_if_open between ≡ 0 → one_if_closed between ≡ 0 →
+          (most o c : ℕ) → most + o ≡ c + limit → is_deep_after limit o c (parted between texts) ≡ false → (rs : List Rule) → all_ok (map (rule_named names) ps) ≡ Ok rs →
+          list_all (λ r. nat_le (open_in_place place (nesting r)) most) rs ≡ true
+      shallow_each (grammar.none place) low between apart apart_too most o c sum flat rs e = ap (list_all (λ r. nat_le (open_in_place place (nesting r)) most)) (sym (the_ok [] rs e))
+      shallow_each (grammar.more {place = place} {rule = p} {text = text} {rules = ps} {texts = texts} s each) low between apart apart_too most o c sum flat rs e =
+          let rest = all_ok (map (rule_named names) ps) in
+          let a = bind_ok (rule_named names p) (λ r. rest >>= λ more. Ok (r ∷ more)) rs e in
+          let b = bind_ok rest (λ more. Ok (a.0 ∷ more)) rs a.2 in
+          let is = the_ok (a.0 ∷ b.0) rs b.2 in
+          let two = split text texts between apart apart_too o c (balanced s) flat in
+          let first = shallow s low most o c sum two.0 a.0 a.1 in
+          let others = shallow_each each low between apart apart_too most o c sum two.1 b.0 b.1 in
+          ap (list_all (λ r. nat_le (open_in_place place (nesting r)) most)) (sym is)
+          ∙ and_from (nat_le (open_in_place place (nesting a.0)) most) (list_all (λ r. nat_le (open_in_place place (nesting r)) most) b.0) (le-leb (open_in_place place (nesting a.0)) most first) others
+
+-- the printed form of a rule that is spelled by a text that isn't too deep
+pub shallow_rule : (names : Catalogue) {p : Phrase} {text : List Token} → Spells 0 p text → is_too_deep text ≡ false → (r : Rule) → rule_named names p ≡ Ok r → is_shallow r ≡ true
 unfolding is_too_deep
-text_shallow names p tokens r spells named fine =
-    let start : is_deep_after 64 0 0 (tokens ++ []) ≡ false = rw append-nil fine in
-    let fits : Fits 64 64 (tokens ++ []) = record { opened = 0; closed = 0; left = refl; kept = start } in
-    at_top (nesting r) 64 (shallow 64 names spells (omega arith) r named 64 [] fits).0
-  where
-    at_top : (n : Nesting) (room : ℕ) → nat_le (open_in_place 0 n) room ≡ true → nat_le n.open_at_most room ≡ true
-    at_top n room h = by n.strength n.open_at_most h
-      where
-        by : (strength deep : ℕ) → nat_le (cond (nat_lt strength 0) (deep + 1) deep) room ≡ true → nat_le deep room ≡ true
-        by strength deep h = grind (arith, nat_tests)
+shallow_rule names s flat r e =
+    let few = shallow 64 names s (omega arith) 64 0 0 refl flat r e in
+    let n = nesting r in
+    le-leb n.open_at_most 64 (subst (λ b. cond b (n.open_at_most + 1) n.open_at_most ≤ 64) (le-ltb n.strength 0 (omega arith)) few)

@@ -27,7 +27,7 @@ use Rattle.pc_text.specs.Given.{Given, nothing_given, variables_given, contents_
 use Rattle.pc_text.specs.Orders.{first_standing, is_wrong_header, comes_wrong, is_malformed, keeps_range, is_cost_text, has_wrong_number, is_one_too_many, is_repeated, orders, rule_fault, fault_of_rule, or_else, statement_fault}
 use Rattle.pc_text.specs.FirstFault.{is_large, size_fault, line_fault, give_line, end_fault, at, or_later, fault_from, given_from, first_fault, given_by}
 use Rattle.pc_text.specs.RuleText.{rule_of}
-use Rattle.pc_text.proofs.RuleKeeps.{rules_keep}
+use Rattle.pc_text.proofs.RuleRead.{rule_of-read, rule_fits}
 
 -- ---- what lines without a fault have given
 
@@ -439,6 +439,12 @@ module _ (given : Given) (arguments : List (List ℕ)) (s : Sound given) where
   given_statement (Some keyword.End) rule sound none = given_end given arguments s (told_none (Some keyword.End) rule none).0
 
 -- ---- line by line
+
+-- a rule that is read keeps the limits of rules
+rules_keep : (variables : List Variable) (text : List ℕ) (rule : Rule) → rule_of (catalogue_of variables) text ≡ Ok rule → is_rule variables rule ≡ true
+rules_keep variables text rule read =
+    let names = catalogue_of variables in
+    rule_fits names text rule variables (record { of_variables = refl; of_values = refl }) (rule_of-read names text rule read)
 
 given_line_by : (given : Given) (line : List ℕ) (skipped : Bool) → Sound given →
     cond skipped None (statement_fault given (keyword_at line) (arguments_at line) (rule_of (catalogue_of (variables_given given)) (after_word line))) ≡ None →
