@@ -3,6 +3,7 @@ pub mod Counts
 pub mod Crowded
 pub mod FirstFault
 pub mod Given
+pub mod Grammar
 pub mod KindWord
 pub mod Keyword
 pub mod LineWords
