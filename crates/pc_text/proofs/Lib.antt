@@ -3,7 +3,11 @@ pub mod FaultLemmas
 pub mod Levels
 pub mod LineLemmas
 pub mod LineWordLemmas
+pub mod Meanings
 pub mod OutcomeLemmas
 pub mod PhraseLemmas
+pub mod SpellsExample
+pub mod StatementFaults
 pub mod TokenLemmas
 pub mod Turns
+pub mod ValueWords
