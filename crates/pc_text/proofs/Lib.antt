@@ -6,6 +6,8 @@ pub mod LineWordLemmas
 pub mod Meanings
 pub mod OutcomeLemmas
 pub mod PhraseLemmas
+pub mod SignificantLines
+pub mod SpelledHasNoFault
 pub mod SpellsExample
 pub mod StatementFaults
 pub mod TokenLemmas
