@@ -4,6 +4,7 @@ pub mod Levels
 pub mod LineLemmas
 pub mod LineWordLemmas
 pub mod Meanings
+pub mod NoFaultIsSpelled
 pub mod OutcomeLemmas
 pub mod PhraseLemmas
 pub mod SignificantLines

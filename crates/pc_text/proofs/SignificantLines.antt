@@ -44,10 +44,10 @@ kept_give given line is = rw is refl
 
 -- lines that are skipped neither have a fault nor give anything
 
-kept_lines : (line : List ℕ) (later : List (List ℕ)) → is_skipped line ≡ false → filter is_significant (line ∷ later) ≡ line ∷ filter is_significant later
+pub kept_lines : (line : List ℕ) (later : List (List ℕ)) → is_skipped line ≡ false → filter is_significant (line ∷ later) ≡ line ∷ filter is_significant later
 kept_lines line later is = rw is refl
 
-skipped_lines : (line : List ℕ) (later : List (List ℕ)) → is_skipped line ≡ true → filter is_significant (line ∷ later) ≡ filter is_significant later
+pub skipped_lines : (line : List ℕ) (later : List (List ℕ)) → is_skipped line ≡ true → filter is_significant (line ∷ later) ≡ filter is_significant later
 skipped_lines line later is = rw is refl
 
 pub given_significant : (given : Given) (all : List (List ℕ)) → given_from given (filter is_significant all) ≡ given_from given all
@@ -60,16 +60,6 @@ given_significant given (line ∷ later) =
       | inr is ↦
           ap (given_from given) (kept_lines line later is) ∙ given_from-cons given line (filter is_significant later)
           ∙ given_significant (give_line given line) later ∙ sym (given_from-cons given line later)
-    ]
-
-pub faultless_significant : (given : Given) (all : List (List ℕ)) → Faultless given all → Faultless given (filter is_significant all)
-faultless_significant given [] none = none
-faultless_significant given (line ∷ later) none =
-    elim (cases_Bool (is_skipped line)) [
-      | inl is ↦
-          let rest = faultless_significant (give_line given line) later none.1 in
-          subst (Faultless given) (sym (skipped_lines line later is)) (subst (λ g. Faultless g (filter is_significant later)) (skipped_give given line is) rest)
-      | inr is ↦ subst (Faultless given) (sym (kept_lines line later is)) (none.0, faultless_significant (give_line given line) later none.1)
     ]
 
 pub faultless_all : (given : Given) (all : List (List ℕ)) → Faultless given (filter is_significant all) → Faultless given all
@@ -156,11 +146,11 @@ whole given number start total (line ∷ later) each few small none =
 
 -- the two directions
 
-pub no_fault_parts : (text : List ℕ) → first_fault text ≡ None → IsSmallText text × Faultless nothing_given (significant_lines text)
+pub no_fault_parts : (text : List ℕ) → first_fault text ≡ None → IsSmallText text × Faultless nothing_given (lines text)
 no_fault_parts text none =
     let p = parts nothing_given 1 0 (length text) (lines text) (omega arith) (omega arith) none in
     let long = extent-lines text in
-    (record { bytes_at_most = omega (arith, p.ends); lines_at_most = omega (arith, p.numbers); each_line = p.each_line }, faultless_significant nothing_given (lines text) p.faultless)
+    (record { bytes_at_most = omega (arith, p.ends); lines_at_most = omega (arith, p.numbers); each_line = p.each_line }, p.faultless)
 
 pub no_fault_from_parts : (text : List ℕ) → IsSmallText text → Faultless nothing_given (significant_lines text) → first_fault text ≡ None
 no_fault_from_parts text small none =
