@@ -7,6 +7,7 @@ pub mod Meanings
 pub mod NoFaultIsSpelled
 pub mod OutcomeLemmas
 pub mod PhraseLemmas
+pub mod ReadLemmas
 pub mod SignificantLines
 pub mod SpelledHasNoFault
 pub mod SpellsExample

@@ -1,5 +1,5 @@
 -- A text without a fault spells the file that it gives.
-use Rattle.std.proofs.Common.{◌≡◌, ℕ, ◌+◌, ◌≤◌, ◌<◌, ◌==◌, Bool, true, false, not, ◌&&◌, List, [], ◌∷◌, ◌++◌, length, map, Option, Some, None, Result, Ok, Err, refl, sym, ap, subst, ◌∙◌, inl, inr, arith}
+use Rattle.std.proofs.Common.{◌≡◌, ℕ, ◌+◌, ◌≤◌, ◌==◌, Bool, true, false, not, ◌&&◌, List, [], ◌∷◌, ◌++◌, length, map, Option, Some, None, Result, Ok, Err, refl, sym, ap, subst, ◌∙◌, inl, inr, arith}
 use Rattle.std.specs.Prelude.{codes, is_none}
 use Rattle.std.specs.List.{AllZip, filter, flat_map}
 use Rattle.std.specs.Option.{option_map, option_to_list}
@@ -18,16 +18,15 @@ use Rattle.pc_file.specs.Limits.{Contents, IsFile, is_reserved}
 use Rattle.pc_text.specs.declared.keyword.Keyword.{Keyword}
 use Rattle.pc_text.specs.declared.keyword.Keyword.TheVariants as keyword
 use Rattle.pc_text.specs.declared.kind.Kind.{Kind}
-use Rattle.pc_text.specs.Keyword.{follows}
 use Rattle.pc_text.specs.LineWords.{after_word}
 use Rattle.pc_text.specs.Given.{Given, nothing_given, variables_given, catalogue_of, is_skipped, keyword_at, arguments_at, argument, value_given, with_value, give_statement, contents_given}
-use Rattle.pc_text.specs.Orders.{comes_wrong, rule_fault}
+use Rattle.pc_text.specs.Orders.{comes_wrong}
 use Rattle.pc_text.specs.RuleText.{rule_of}
 use Rattle.pc_text.specs.FirstFault.{line_fault, give_line, end_fault, given_from, first_fault, given_by}
-use Rattle.pc_text.specs.Statement.{Statement, header, a_cost, a_variable, a_value, a_rule, end, Says, statements, variable_statements, value_words}
+use Rattle.pc_text.specs.Statement.{Statement, header, a_cost, a_variable, a_value, a_rule, end, Says, statements, variable_statements}
 use Rattle.pc_text.specs.Spells.{Spells, is_significant, significant_lines}
 use Rattle.pc_text.proofs.FaultLemmas.{given_from-nil, given_from-cons}
-use Rattle.pc_text.proofs.Meanings.{Means, MeansHere, means_says}
+use Rattle.pc_text.proofs.Meanings.{Means, means_says}
 use Rattle.pc_text.proofs.SignificantLines.{Faultless, kept_fault, kept_give, skipped_give, kept_lines, skipped_lines, no_fault_parts}
 use Rattle.pc_text.proofs.StatementFaults.{NoFault, no_fault_parts as statement_parts}
 use Rattle.pc_text.proofs.ValueWords.{words_of_given}

@@ -1,21 +1,19 @@
 -- A text has no fault exactly where it is small enough and its significant lines have none, one after the other.
-use Rattle.std.proofs.Common.{◌≡◌, ℕ, ◌+◌, ◌≤◌, ◌<◌, ◌==◌, Bool, true, false, not, cond, min, List, [], ◌∷◌, length, Option, Some, None, refl, sym, ap, subst, ◌∙◌, inl, inr, arith}
+use Rattle.std.proofs.Common.{◌≡◌, ℕ, ◌+◌, ◌≤◌, ◌==◌, Bool, true, false, cond, min, List, [], ◌∷◌, length, Option, Some, None, refl, sym, ap, subst, ◌∙◌, inl, inr, arith}
 use Rattle.std.specs.Prelude.{◌||◌, nat_lt}
 use Rattle.std.specs.List.{filter, list_all, onto_first}
 use Rattle.std.proofs.lemmas.Bool.{cases_Bool, ltb-false, le-ltb, le-leb, leb-true}
 use Rattle.pc_base.specs.Lines.{lines}
 use Rattle.pc_base.proofs.DistinctLemmas.{both_true_parts, both_false_parts}
 use Rattle.pc_text.specs.declared.kind.Kind.{Kind}
-use Rattle.pc_text.specs.declared.keyword.Keyword.{Keyword}
-use Rattle.pc_file.specs.Limits.{Contents}
 use Rattle.pc_text.specs.LineWords.{after_word}
-use Rattle.pc_text.specs.Given.{Given, nothing_given, variables_given, catalogue_of, is_skipped, keyword_at, arguments_at, give_statement, contents_given}
+use Rattle.pc_text.specs.Given.{Given, nothing_given, variables_given, catalogue_of, is_skipped, keyword_at, arguments_at, give_statement}
 use Rattle.pc_text.specs.Orders.{or_else, statement_fault}
 use Rattle.pc_text.specs.RuleText.{rule_of}
 use Rattle.pc_text.specs.FirstFault.{is_large, size_fault, line_fault, give_line, end_fault, at, or_later, fault_from, given_from, first_fault, given_by}
 use Rattle.pc_text.specs.Spells.{is_small_line, is_significant, significant_lines, IsSmallText}
-use Rattle.pc_text.proofs.FaultLemmas.{fault_from-nil, fault_from-cons, given_from-nil, given_from-cons}
-use Rattle.pc_text.proofs.StatementFaults.{or_else_parts, or_else_none}
+use Rattle.pc_text.proofs.FaultLemmas.{fault_from-nil, fault_from-cons, given_from-cons}
+use Rattle.pc_text.proofs.StatementFaults.{or_else_parts}
 
 -- no line has a fault after those before it, nor has the end
 abbrev pub Faultless : Given → List (List ℕ) → Type 0

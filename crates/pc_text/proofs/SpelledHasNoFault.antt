@@ -1,5 +1,5 @@
 -- A text that spells a file has no fault, and what it gives is that file.
-use Rattle.std.proofs.Common.{◌≡◌, ℕ, ◌+◌, ◌≤◌, ◌<◌, Bool, true, false, not, ◌&&◌, List, [], ◌∷◌, ◌++◌, length, map, Option, Some, None, Result, Ok, Err, refl, sym, ap, subst, ◌∙◌, inl, inr, arith, length-append}
+use Rattle.std.proofs.Common.{◌≡◌, ℕ, ◌≤◌, ◌<◌, Bool, true, false, not, ◌&&◌, List, [], ◌∷◌, ◌++◌, length, map, Option, Some, None, Result, Ok, refl, sym, ap, subst, ◌∙◌, inl, inr, arith, length-append}
 use Rattle.std.specs.Prelude.{codes, nat_le}
 use Rattle.std.specs.List.{AllZip, list_all, list_any, flat_map}
 use Rattle.std.specs.Option.{option_to_list}
@@ -8,29 +8,27 @@ use Rattle.std.proofs.lemmas.List.{append-nil, append_assoc, map-append, length-
 use Rattle.std.proofs.lemmas.List.Folds.{list_all-append}
 use Rattle.pc_base.specs.Distinct.{all_differ}
 use Rattle.pc_base.proofs.DistinctLemmas.{both_true_parts, all_differ-again}
-use Rattle.pc_names.specs.Name.{is_name}
 use Rattle.pc_file.specs.Spelling.{same_spelling}
 use Rattle.pc_file.proofs.NamesLemmas.{same_spelling-symmetric}
 use Rattle.pc_file.specs.declared.rule.Rule.{Rule}
 use Rattle.pc_file.specs.declared.variable.Value.{Value}
 use Rattle.pc_file.specs.declared.variable.Variable.{Variable}
-use Rattle.pc_file.specs.Limits.{Contents, IsFile, is_value, is_variable, is_sized, is_reserved, value_names, variable_names, values_differ, names_differ}
+use Rattle.pc_file.specs.Limits.{Contents, IsFile, is_value, is_variable, is_sized, is_reserved, value_names, variable_names, values_differ}
 use Rattle.pc_text.specs.declared.keyword.Keyword.{Keyword}
 use Rattle.pc_text.specs.declared.keyword.Keyword.TheVariants as keyword
 use Rattle.pc_text.specs.declared.kind.Kind.{Kind}
 use Rattle.pc_text.specs.Keyword.{follows}
 use Rattle.pc_text.specs.LineWords.{after_word}
-use Rattle.pc_text.specs.Given.{Given, nothing_given, variables_given, catalogue_of, is_skipped, keyword_at, arguments_at, value_given, with_value, give_statement, contents_given}
-use Rattle.pc_text.specs.Orders.{statement_fault}
+use Rattle.pc_text.specs.Given.{Given, nothing_given, variables_given, catalogue_of, is_skipped, keyword_at, arguments_at, with_value, give_statement, contents_given}
 use Rattle.pc_text.specs.RuleText.{rule_of}
 use Rattle.pc_text.specs.FirstFault.{line_fault, give_line, end_fault, given_from, first_fault, given_by}
 use Rattle.pc_text.specs.Statement.{Statement, header, a_cost, a_variable, a_value, a_rule, end, Says, statements, variable_statements, value_words}
 use Rattle.pc_text.specs.Spells.{Spells, significant_lines}
 use Rattle.pc_text.proofs.FaultLemmas.{given_from-nil, given_from-cons}
-use Rattle.pc_text.proofs.Meanings.{MeansHere, says_means}
+use Rattle.pc_text.proofs.Meanings.{says_means}
 use Rattle.pc_text.proofs.SignificantLines.{Faultless, kept_fault, kept_give, no_fault_from_parts, given_by_significant}
 use Rattle.pc_text.proofs.StatementFaults.{NoFault, no_fault}
-use Rattle.pc_text.proofs.ValueWords.{WordsFit, words_fit}
+use Rattle.pc_text.proofs.ValueWords.{words_fit}
 
 -- the lines have no fault, and the file is what they give
 abbrev Reads : Contents → Given → List (List ℕ) → Type 0

@@ -1,14 +1,11 @@
 -- The smallest file, and a text that spells it.
-use Rattle.std.proofs.Common.{◌≡◌, ℕ, pos, true, List, [], ◌∷◌, ◌++◌, length, refl, arith}
+use Rattle.std.proofs.Common.{ℕ, pos, List, [], ◌∷◌, ◌++◌, refl, arith}
 use Rattle.std.specs.Prelude.{codes}
 use Rattle.std.specs.Fmt.{digits}
 use Rattle.std.specs.List.{AllZip}
 use Rattle.pc_base.specs.Lines.{lines}
 use Rattle.pc_file.specs.Limits.{Contents, IsFile}
-use Rattle.pc_text.specs.LineWords.{words, first_word, from_word, after_word}
-use Rattle.pc_text.specs.FirstFault.{first_fault, fault_from, line_fault, give_line}
-use Rattle.pc_text.specs.Keyword.{keyword_of}
-use Rattle.pc_names.specs.Number.{int_of}
+use Rattle.pc_text.specs.LineWords.{words, first_word, from_word}
 use Rattle.pc_text.specs.Statement.{Says, statements}
 use Rattle.pc_text.specs.Spells.{IsSmallText, Spells, significant_lines}
 

@@ -1,10 +1,10 @@
 -- The words of a value, and the value that they give.
-use Rattle.std.proofs.Common.{◌≡◌, ℕ, zero, suc, ◌+◌, ◌≤◌, ℤ, pos, negsuc, Bool, true, false, ◌==◌, ◌&&◌, List, [], ◌∷◌, length, drop, Option, Some, None, FitsSigned, refl, sym, ap, ◌∙◌, arith, w64}
+use Rattle.std.proofs.Common.{◌≡◌, ℕ, zero, suc, ◌+◌, ◌≤◌, ℤ, pos, negsuc, true, ◌==◌, ◌&&◌, List, [], ◌∷◌, length, drop, Option, Some, None, FitsSigned, refl, sym, ap, ◌∙◌, arith, w64}
 use Rattle.std.specs.Fmt.{digits, signed_decimal}
 use Rattle.std.specs.List.{list_all}
 use Rattle.std.specs.Option.{unwrap_or}
 use Rattle.std.specs.Ordering.{int_eq}
-use Rattle.std.proofs.lemmas.Bool.{eqb-true, eq-eqb}
+use Rattle.std.proofs.lemmas.Bool.{eqb-true}
 use Rattle.std.proofs.lemmas.Bool.Decides.{nat_tests, Decides-int_eq}
 use Rattle.std.proofs.lemmas.Int.{ints}
 use Rattle.pc_base.proofs.DistinctLemmas.{both_true_parts}
@@ -12,7 +12,7 @@ use Rattle.pc_names.specs.Number.{int_of}
 use Rattle.pc_names.proofs.Written.{int_of_spelling, int_of_found}
 use Rattle.pc_file.specs.declared.variable.Value.{Value}
 use Rattle.pc_file.specs.Limits.{is_cost, is_value}
-use Rattle.pc_text.specs.Given.{value_given, number_at}
+use Rattle.pc_text.specs.Given.{value_given}
 use Rattle.pc_text.specs.Orders.{keeps_range, is_cost_text}
 use Rattle.pc_text.specs.Statement.{value_words}
 
