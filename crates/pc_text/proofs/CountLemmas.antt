@@ -57,6 +57,11 @@ module _ (word : List ℕ) where
   no_count none None nowhere = refl
   no_count none (Some m) there = let spelled = found_spells m there.0 in absurd (none m spelled.0 (sym spelled.1))
 
+  -- a number that is found is small
+  pub count_of-small : (n : ℕ) → count_of word ≡ Some n → n ≤ 64
+  unfolding count_of
+  count_of-small n found = let at = place (Some n) (sym found) in (found_spells n at.0).0
+
   -- the number that the word spells
   pub count_of_spelled : (n : ℕ) → n ≤ 64 → word ≡ decimal n → count_of word ≡ Some n
   unfolding count_of

@@ -27,6 +27,7 @@ use Rattle.pc_text.specs.Statement.{Statement, header, a_cost, a_variable, a_val
 use Rattle.pc_text.specs.Spells.{Spells, is_significant, significant_lines}
 use Rattle.pc_text.proofs.FaultLemmas.{given_from-nil, given_from-cons}
 use Rattle.pc_text.proofs.Meanings.{Means, means_says}
+use Rattle.pc_text.proofs.SoundText.{no_fault_is_file}
 use Rattle.pc_text.proofs.SignificantLines.{Faultless, kept_fault, kept_give, skipped_give, kept_lines, skipped_lines, no_fault_parts}
 use Rattle.pc_text.proofs.StatementFaults.{NoFault, no_fault_parts as statement_parts}
 use Rattle.pc_text.proofs.ValueWords.{words_of_given}
@@ -452,8 +453,9 @@ so_far-end given is =
     let rules = map a_rule given.rules in
     ap (λ l. begun l ++ costs ++ variables ++ rules ++ ended l) is ∙ regroup (header ∷ []) costs variables rules (end ∷ [])
 
-pub no_fault_is_spelled : (text : List ℕ) → IsFile (contents_given (given_by text)) → first_fault text ≡ None → Spells text (contents_given (given_by text))
-no_fault_is_spelled text is none =
+pub no_fault_is_spelled : (text : List ℕ) → first_fault text ≡ None → Spells text (contents_given (given_by text))
+no_fault_is_spelled text none =
+    let is : IsFile (contents_given (given_by text)) = no_fault_is_file text none in
     let parts = no_fault_parts text none in
     let last = given_by text in
     let rest = says_rest nothing_given (lines text) last refl is.some_cost is.costs_at_most (refl, refl, refl, refl) parts.1 in

@@ -1,6 +1,6 @@
 -- What reading answers, beside what a text spells.
 use Rattle.std.proofs.Common.{◌≡◌, ℕ, List, None, Err, sym, ap, subst, ◌∙◌}
-use Rattle.pc_file.specs.Limits.{Contents, IsFile}
+use Rattle.pc_file.specs.Limits.{Contents}
 use Rattle.pc_text.specs.declared.text_fault.TextFault.{TextFault}
 use Rattle.pc_text.specs.declared.text_fault.TextFault.TheVariants.{At, NoMemory}
 use Rattle.pc_text.specs.FirstFault.{first_fault, given_by}
@@ -11,10 +11,8 @@ use Rattle.pc_text.proofs.NoFaultIsSpelled.{no_fault_is_spelled}
 use Rattle.pc_text.proofs.SpelledHasNoFault.{spelled_has_no_fault}
 
 -- the file that is read is spelled
-pub read_spells : (text : List ℕ) (given : Given) (file : Contents) → first_fault text ≡ None → given ≡ given_by text → file ≡ contents_given given → IsFile file → Spells text file
-read_spells text given file none holds read is =
-    let same : contents_given (given_by text) ≡ file = ap contents_given (sym holds) ∙ sym read in
-    subst (Spells text) same (no_fault_is_spelled text (subst IsFile (sym same) is) none)
+pub read_spells : (text : List ℕ) (given : Given) (file : Contents) → first_fault text ≡ None → given ≡ given_by text → file ≡ contents_given given → Spells text file
+read_spells text given file none holds read = subst (Spells text) (ap contents_given (sym holds) ∙ sym read) (no_fault_is_spelled text none)
 
 -- no other is
 pub read_only : (text : List ℕ) (given : Given) (file : Contents) → given ≡ given_by text → file ≡ contents_given given → (spelled : Contents) → Spells text spelled → file ≡ spelled

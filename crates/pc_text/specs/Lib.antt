@@ -2,6 +2,7 @@ pub mod Arguments
 pub mod Counts
 pub mod FirstFault
 pub mod Given
+pub mod Grammar
 pub mod KindWord
 pub mod Keyword
 pub mod LineWords

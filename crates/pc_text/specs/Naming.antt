@@ -1,9 +1,10 @@
 -- The rule that a phrase names, with positions in place of words.
-use Rattle.std.specs.Prelude.{ℕ, ◌^◌, nat_lt, if◌then◌else◌, List, [], ◌∷◌, map, Option, Some, None, Ok, Err}
+use Rattle.std.specs.Prelude.{◌≡◌, ℕ, ◌^◌, nat_lt, if◌then◌else◌, List, [], ◌∷◌, map, Option, Some, None, Ok, Err}
 use Rattle.std.specs.Option.{unwrap_or}
 use Rattle.std.specs.List.{zip}
 use Rattle.pc_names.specs.Name.{is_name}
 use Rattle.pc_file.specs.declared.catalogue.Catalogue.{Catalogue}
+use Rattle.pc_file.specs.declared.variable.Variable.{Variable}
 use Rattle.pc_file.specs.declared.rule.Rule.{Rule}
 use Rattle.pc_file.specs.declared.rule.Rule.TheVariants as rule
 use Rattle.pc_file.specs.Catalogue.{variable_position, value_position}
@@ -78,3 +79,8 @@ named_step names (Table variables rows) = do
 
 abbrev pub rule_named : Catalogue → Phrase → Outcome Rule
 rule_named names = fold-Phrase (Outcome Rule) (named_step names)
+
+-- the catalogue has the names of these variables and of their values
+pub record HoldsNames (names : Catalogue) (variables : List Variable) : Type 0 where
+  pub of_variables : names.variables ≡ map (λ variable. variable.name) variables
+  pub of_values : names.values ≡ map (λ variable. map (λ value. value.name) variable.values) variables

@@ -68,13 +68,13 @@ abbrev pub one_if_closed : Token → ℕ
 one_if_closed (Mark Close) = 1
 one_if_closed _ = 0
 
--- At some token the opening parentheses so far are more than 64 more than the closing ones; some came before.
-abbrev pub is_deep_after : ℕ → ℕ → List Token → Bool
-is_deep_after opened closed [] = false
-is_deep_after opened closed (token ∷ tokens) =
+-- At some token the opening parentheses so far are more than the limit more than the closing ones; some came before.
+abbrev pub is_deep_after : ℕ → ℕ → ℕ → List Token → Bool
+is_deep_after limit opened closed [] = false
+is_deep_after limit opened closed (token ∷ tokens) =
     let opened_now = opened + one_if_open token in
     let closed_now = closed + one_if_closed token in
-    nat_lt (closed_now + 64) opened_now || is_deep_after opened_now closed_now tokens
+    nat_lt (closed_now + limit) opened_now || is_deep_after limit opened_now closed_now tokens
 
 unfoldable pub is_too_deep : List Token → Bool
-is_too_deep = is_deep_after 0 0
+is_too_deep = is_deep_after 64 0 0

@@ -101,7 +101,6 @@ impl Reader {
     pub fn into_file(mut self, alloc: Global) -> Result<File, FileFault>
         requires { IsIndexed self }
         ensures file { IfOk result (λ file. file ≡ contents_given (given_of self)) }
-        ensures limits { IfOk result IsFile }
         ensures limit { IsErrOf result FileFault.Limit → ¬ IsFile (contents_given (given_of self)) }
     {
         self.close()?;

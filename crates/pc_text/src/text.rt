@@ -21,7 +21,7 @@ pub fn read_file(alloc: Global, text: &[u8]) -> Result<File, TextFault>
     match read_statements(alloc, text) {
         Ok(reader) => match reader.into_file(alloc) {
             Ok(file) => Ok(file),
-            Err(FileFault::Limit) => Err(TextFault::NoMemory),
+            Err(FileFault::Limit) => unreachable!(),
             Err(FileFault::NoMemory) => Err(TextFault::NoMemory),
         },
         Err(fault) => Err(fault),
