@@ -19,21 +19,21 @@ ends (feed a b h) =
     let after : after_line (a ++ 10 ∷ b) ≡ b = ap (drop 1) (from_feed-at_feed a b h) in
     inl (omega (arith, ap length (first_line-at_feed a b h), ap length after, length-append a (10 ∷ b)))
 
-fault_from-nil : (given : Given) (number start total : ℕ) → fault_from given number start total [] ≡ at number (end_fault given.last)
+pub fault_from-nil : (given : Given) (number start total : ℕ) → fault_from given number start total [] ≡ at number (end_fault given.last)
 unfolding fault_from
 fault_from-nil given number start total = refl
 
-fault_from-cons : (given : Given) (number start total : ℕ) (line : List ℕ) (later : List (List ℕ)) →
+pub fault_from-cons : (given : Given) (number start total : ℕ) (line : List ℕ) (later : List (List ℕ)) →
     fault_from given number start total (line ∷ later)
     ≡ or_later (at number (or_else (size_fault (is_large number (min (start + length line + 1) total) line)) (line_fault given line))) (fault_from (give_line given line) (number + 1) (start + length line + 1) total later)
 unfolding fault_from
 fault_from-cons given number start total line later = refl
 
-given_from-nil : (given : Given) → given_from given [] ≡ given
+pub given_from-nil : (given : Given) → given_from given [] ≡ given
 unfolding given_from
 given_from-nil given = refl
 
-given_from-cons : (given : Given) (line : List ℕ) (later : List (List ℕ)) → given_from given (line ∷ later) ≡ given_from (give_line given line) later
+pub given_from-cons : (given : Given) (line : List ℕ) (later : List (List ℕ)) → given_from given (line ∷ later) ≡ given_from (give_line given line) later
 unfolding given_from
 given_from-cons given line later = refl
 

@@ -14,6 +14,8 @@ pub mod Reader
 pub mod Reading
 pub mod RuleFaults
 pub mod RuleText
+pub mod Spells
+pub mod Statement
 pub mod Told
 pub mod Token
 pub mod Words

@@ -1,0 +1,38 @@
+-- When a text spells a file.
+use Rattle.std.specs.Prelude.{◌≡◌, ℕ, ◌≤◌, nat_le, Bool, true, not, List, length, Result, Ok, Err}
+use Rattle.std.specs.List.{list_all, filter, AllZip}
+use Rattle.pc_base.specs.Lines.{lines}
+use Rattle.pc_file.specs.Limits.{Contents, IsFile}
+use Rattle.pc_text.specs.declared.text_fault.TextFault.{TextFault}
+use Rattle.pc_text.specs.declared.text_fault.TextFault.TheVariants.{At, NoMemory}
+use Rattle.pc_text.specs.Given.{is_skipped}
+use Rattle.pc_text.specs.Statement.{statements, Says}
+
+abbrev pub is_small_line : List ℕ → Bool
+is_small_line line = nat_le (length line) 65536
+
+-- a text has at most 1,048,576 bytes and at most 8,192 lines, each of at most 65,536 bytes
+pub record IsSmallText (text : List ℕ) : Type 0 where
+  pub bytes_at_most : length text ≤ 1048576
+  pub lines_at_most : length (lines text) ≤ 8192
+  pub each_line : list_all is_small_line (lines text) ≡ true
+
+-- the line counts: it has words, and the first doesn't begin with `#`
+abbrev pub is_significant : List ℕ → Bool
+is_significant line = not (is_skipped line)
+
+-- the lines that count, in order
+abbrev pub significant_lines : List ℕ → List (List ℕ)
+significant_lines text = filter is_significant (lines text)
+
+-- A text that is small enough spells a file: the lines that count say its statements, one for one.
+pub record Spells (text : List ℕ) (file : Contents) : Type 0 where
+  pub is_small : IsSmallText text
+  pub is_file : IsFile file
+  pub says : AllZip (Says file) (significant_lines text) (statements file)
+
+-- what is answered is this, unless memory is wanted
+abbrev pub Gives : {X : Type 0} → X → Result X TextFault → Type 0
+Gives x (Ok answer) = answer ≡ x
+Gives x (Err (At line kind)) = ⊥
+Gives x (Err NoMemory) = Unit {0}
