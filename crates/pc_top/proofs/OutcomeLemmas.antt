@@ -1,58 +1,56 @@
--- An answer to a text is done or refused.
-use Rattle.std.proofs.Common.{◌≡◌, ℕ, nat_eq, nat_lt, cond, Bool, true, false, List, length, Option, Some, None, subst, sym}
-use Rattle.std.specs.Bool.{⊤}
+-- What an answer to a text means, and what it leaves.
+use Rattle.std.proofs.Common.{◌≡◌, ℕ, ◌<◌, ◌≤◌, nat_eq, nat_lt, cond, Bool, true, false, List, [], length, Option, Some, None, refl, subst, sym, ap, inl, inr, ◌∷◌, arith}
+use Rattle.std.specs.Prelude.{◌⊎◌, Result, Ok, Err, IfOk}
+use Rattle.std.proofs.lemmas.Bool.Decides.{nat_tests}
 use Rattle.pc_file.specs.Limits.{Contents}
 use Rattle.pc_file.specs.Products.{products, words_of}
-use Rattle.pc_text.specs.declared.kind.Kind.{Kind}
-use Rattle.pc_text.specs.Crowded.{crowded_line}
-use Rattle.pc_text.specs.FirstFault.{first_fault, given_by}
-use Rattle.pc_text.specs.Given.{contents_given}
+use Rattle.pc_text.specs.Spells.{Spells}
+use Rattle.pc_top.specs.declared.list_reply.Reply.{Reply}
 use Rattle.pc_top.specs.declared.status.Status.{Status}
 use Rattle.pc_top.specs.declared.status.Status.TheVariants.{Done, WrongWords, Refused, ReadFault, WriteFault, NoMemory, TooLong}
 use Rattle.pc_top.specs.ListOutcome.{Ends, ReadsAll, AnswersText, Leaves}
-use Rattle.pc_top.specs.ListReply.{Output, file_reply, list_reply, listed, refused_no_product, refused_not_built, reply_by}
+use Rattle.pc_top.specs.ListReply.{Output, list_reply, listed, listing_reply, refused_no_product}
+use Rattle.pc_top.specs.Reply.{Is}
+use Rattle.pc_top.specs.Means.{Means, IsListed, HasNoProduct}
 
--- done or refused
-abbrev pub IsAnswer : Status → Type 0
-IsAnswer Done = ⊤
-IsAnswer WrongWords = ⊥
-IsAnswer Refused = ⊤
-IsAnswer ReadFault = ⊥
-IsAnswer WriteFault = ⊥
-IsAnswer NoMemory = ⊥
-IsAnswer TooLong = ⊥
+is_empty : (words : List (List ℕ)) → length words ≡ 0 → words ≡ []
+is_empty [] none = refl
+is_empty (word ∷ words) none =
+    let no : ⊥ = omega (arith, none) in
+    elim no [ ]
 
-either : (b : Bool) (x y : Output) → IsAnswer x.status → IsAnswer y.status → IsAnswer (cond b x y).status
-either true x y first second = first
-either false x y first second = second
+by_count : (text : List ℕ) (file : Contents) (is_none : Bool) → Spells text file → words_of file ≤ 65536 → is_none ≡ nat_eq (length (products file)) 0 →
+    Means (cond is_none refused_no_product (listing_reply file)).status text (cond is_none refused_no_product (listing_reply file)).text
+by_count text file true spells few is = inr (inr (record { file = file; spells = spells; few_words = few; no_product = is_empty (products file) (grind (arith, nat_tests)); writes = refl }))
+by_count text file false spells few is = record {
+  file = file;
+  spells = spells;
+  few_words = few;
+  some_product = grind (arith, nat_tests);
+  writes = refl }
 
-not_built : (line : Option ℕ) → IsAnswer (refused_not_built line).status
-not_built None = tt
-not_built (Some line) = tt
+means_file : (text : List ℕ) (file : Contents) → Spells text file → words_of file ≤ 65536 →
+    Means (listed file (products file)).status text (listed file (products file)).text
+means_file text file spells few = by_count text file (nat_eq (length (products file)) 0) spells few refl
 
-of_file : (file : Contents) (crowded : Option ℕ) → IsAnswer (file_reply file crowded).status
-unfolding file_reply
-of_file file crowded = either (nat_lt 65536 (words_of file)) (refused_not_built crowded) (listed file (products file)) (not_built crowded)
-    (either (nat_eq (length (products file)) 0) refused_no_product _ tt tt)
+-- a file with few words is listed, or has no product
+pub means_listed : {E : Type 0} (text : List ℕ) (file : Contents) (result : Result Reply E) → Spells text file → words_of file ≤ 65536 →
+    IfOk result (λ reply. Is reply (listed file (products file))) → IfOk result (λ reply. Means reply.status text reply.text)
+means_listed text file (Ok reply) spells few is =
+    subst (λ s. Means s text reply.text) (sym is.status)
+      (subst (λ t. Means (listed file (products file)).status text t) (sym is.text) (means_file text file spells few))
+means_listed text file (Err fault) spells few is = tt
 
-of_fault : (fault : Option (ℕ × Kind)) (file : Contents) (crowded : Option ℕ) → IsAnswer (reply_by fault file crowded).status
-of_fault None file crowded = of_file file crowded
-of_fault (Some fault) file crowded = tt
-
-of_text : (text : List ℕ) → IsAnswer (list_reply text).status
-unfolding list_reply
-of_text text = of_fault (first_fault text) (contents_given (given_by text)) (crowded_line text)
-
-leaves_by : (status : Status) (before after : Ends) → IsAnswer status → AnswersText status before after → Leaves status before after
-leaves_by Done before after is answers = answers
-leaves_by WrongWords before after is answers = elim is [ ]
-leaves_by Refused before after is answers = answers
-leaves_by ReadFault before after is answers = elim is [ ]
-leaves_by WriteFault before after is answers = elim is [ ]
-leaves_by NoMemory before after is answers = elim is [ ]
-leaves_by TooLong before after is answers = elim is [ ]
+leaves_by : (status : Status) (text : List ℕ) (written : List ℕ) (before after : Ends) → Means status text written → AnswersText status before after → Leaves status before after
+leaves_by Done text written before after means answers = answers
+leaves_by WrongWords text written before after means answers = elim means [ ]
+leaves_by Refused text written before after means answers = answers
+leaves_by ReadFault text written before after means answers = elim means [ ]
+leaves_by WriteFault text written before after means answers = elim means [ ]
+leaves_by NoMemory text written before after means answers = elim means [ ]
+leaves_by TooLong text written before after means answers = elim means [ ]
 
 -- a text read to its end and its answer written, all of it, are what the answer's status tells
-pub leaves_answer : (text : List ℕ) (status : Status) (before after : Ends) → status ≡ (list_reply text).status →
+pub leaves_answer : (text : List ℕ) (status : Status) (before after : Ends) → Means status text (list_reply text).text →
     AnswersText status before after → Leaves status before after
-leaves_answer text status before after is answers = leaves_by status before after (subst IsAnswer (sym is) (of_text text)) answers
+leaves_answer text status before after means answers = leaves_by status text (list_reply text).text before after means answers

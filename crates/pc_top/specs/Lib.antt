@@ -1,5 +1,6 @@
-pub mod ListReply
 pub mod ListOutcome
-pub mod Words
-pub mod Status
+pub mod ListReply
+pub mod Means
 pub mod Reply
+pub mod Status
+pub mod Words

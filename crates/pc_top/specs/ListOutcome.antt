@@ -7,6 +7,7 @@ use Rattle.pc_io.specs.declared.line_fault.LineFault.{LineFault}
 use Rattle.pc_io.specs.Told.{GrewByPart}
 use Rattle.pc_top.specs.declared.status.Status.{Status}
 use Rattle.pc_top.specs.declared.status.Status.TheVariants.{Done, WrongWords, Refused, ReadFault, WriteFault, NoMemory, TooLong}
+use Rattle.pc_top.specs.Means.{Means}
 use Rattle.pc_top.specs.Status.{code}
 use Rattle.pc_top.specs.ListReply.{Output, list_reply}
 
@@ -32,6 +33,7 @@ pub record AnswersText (status : Status) (before after : Ends) : Type 0 where
   pub text : List ℕ
   pub reads : ReadsAll text before after
   pub status_is : status ≡ (list_reply text).status
+  pub means : Means status text (list_reply text).text
   pub written : after.written ≡ append_known before.written (list_reply text).text
 
 -- a text was read to its end, and its answer was written, all of it; the answer has this exit status
@@ -39,6 +41,7 @@ pub record Answers (exit : ℕ) (before after : Ends) : Type 0 where
   pub text : List ℕ
   pub reads : ReadsAll text before after
   pub exit_is : exit ≡ code (list_reply text).status
+  pub means : Means (list_reply text).status text (list_reply text).text
   pub written : after.written ≡ append_known before.written (list_reply text).text
 
 -- a text was read to its end, and a part of its answer was written

@@ -31,11 +31,13 @@ refused_not_built (Some line) = record { status = Refused; text = codes "refused
 abbrev pub refused_no_product : Output
 refused_no_product = record { status = Refused; text = codes "refused no-product\n" }
 
--- the listing of all products, and a line `.`; or that there is none
+-- the listing of a file without choices and bounds, and a line `.`
+abbrev pub listing_reply : Contents → Output
+listing_reply file = record { status = Done; text = listing_text file.variables (file_listing file [] no_bounds) ++ codes ".\n" }
+
+-- the listing of a file with these products; or that there is none
 abbrev pub listed : Contents → List (List ℕ) → Output
-listed file words =
-    if nat_eq (length words) 0 then refused_no_product
-    else record { status = Done; text = listing_text file.variables (file_listing file [] no_bounds) ++ codes ".\n" }
+listed file words = if nat_eq (length words) 0 then refused_no_product else listing_reply file
 
 -- a file that is too large for the plain list, or not
 unfoldable pub file_reply : Contents → Option ℕ → Output

@@ -23,13 +23,15 @@ impl Reply {
     ghost use Rattle.pc_text.specs.Crowded.{crowded_line, is_crowded};
     ghost use Rattle.pc_text.specs.FirstFault.{first_fault, given_by};
     ghost use Rattle.pc_top.specs.ListReply.{list_reply, listed, refused_no_product, refused_not_built, refused_text};
+    ghost use Rattle.pc_top.specs.Means.{Means};
     ghost use Rattle.pc_top.specs.Reply.{Is};
 
     /// The answer to a product text: the listing of the file that it spells, without choices and bounds, and a line
     /// `.`; or one line that says why there is none.
     #[tactic(auto, unfolding(crate::specs::ListReply::list_reply, crate::specs::ListReply::file_reply))]
     pub fn to_list(alloc: Global, text: &[u8]) -> Result<Reply, NoMemory>
-        ensures { IfOk result (λ reply. Is reply (list_reply text.now)) }
+        ensures exact { IfOk result (λ reply. Is reply (list_reply text.now)) }
+        ensures means { IfOk result (λ reply. Means reply.status text.now reply.text) }
     {
         let file = match read_file(alloc, text) {
             Ok(file) => file,
