@@ -29,7 +29,7 @@ impl Sequence<u8> {
         ensures ok { OnOk result (self.new ≡ self.old ++ signed_decimal number) }
         ensures err { OnErr result (self.new ≡ self.old) }
     {
-        let mut buffer = Buffer::new();
-        self.extend_from_slice(buffer.format(number).as_bytes())
+        let mut digits = Buffer::new();
+        self.extend_from_slice(digits.format(number).as_bytes())
     }
 }

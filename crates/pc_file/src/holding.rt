@@ -14,7 +14,8 @@ use pc_base::Sequence;
 use pc_diagram::Word;
 use pc_names::Name;
 
-/// Whether a rule holds for a word. What the file or the word lacks is taken by no rule.
+/// Whether a rule holds for a word. A word takes no value at a variable past its end, and two values that are not
+/// there count as having one name.
 pub fn holds(file: &File, rule: &Rule, word: &Word) -> bool
     ensures { result ≡ holds file.now.variables word.now rule.now }
 {

@@ -23,7 +23,7 @@ pub use laws::{
     bike_has_eight_products, names_have_first_places, products_are_the_words_that_obey,
 };
 pub use limits::is_reserved;
-pub use listing::{costs_of, plain_listing};
+pub use listing::{costs_of, listing_over, plain_listing};
 pub use listing_text::push_listing;
 pub use names::Names;
 pub use products::{PlainFault, has_few_words, plain_products};

@@ -2,13 +2,14 @@
 
 ghost use Rattle.std.specs.Prelude.{◌≡◌, ◌≤◌, ◌<◌, map, IfOk, IsErrOf};
 ghost use Rattle.pc_file.specs.Products.{words_of};
+ghost use Rattle.pc_diagram.specs.Listing.{listing};
 ghost use Rattle.pc_file.specs.Costs.{pair_of, costs_of, file_listing};
 
 use crate::file::File;
 use crate::products::{PlainFault, plain_products};
 use crate::variable::{Value, Variable};
 use pc_base::{NoMemory, Sequence};
-use pc_diagram::{Bounds, Choices, CostPair, Costs, Listing, listing};
+use pc_diagram::{Bounds, Choices, CostPair, Costs, Listing, Word, listing};
 use std::alloc::{AllocError, Global};
 
 /// The valid values under choices and bounds, each with its cheapest product, by trying every word.
@@ -23,8 +24,21 @@ pub fn plain_listing(
     ensures too_many { IsErrOf result PlainFault.TooMany → 65536 < words_of file.now }
 {
     let products = plain_products(alloc, file)?;
+    Ok(listing_over(alloc, file, products.as_slice(), choices, bounds)?)
+}
+
+/// The values that some of these words takes under choices and bounds, each with the cheapest such word.
+pub fn listing_over(
+    alloc: Global,
+    file: &File,
+    words: &[Word],
+    choices: &Choices,
+    bounds: &Bounds,
+) -> Result<Listing, NoMemory>
+    ensures { IfOk result (λ l. l ≡ listing (costs_of file.now.variables) words.now choices.now bounds.now) }
+{
     let costs = costs_of(alloc, file.variables())?;
-    Ok(listing(alloc, &costs, products.as_slice(), choices, bounds)?)
+    listing(alloc, &costs, words, choices, bounds)
 }
 
 /// Per variable the costs of its values.

@@ -9,7 +9,8 @@ use pc_base::{NoMemory, Text};
 use pc_diagram::{Listed, Listing};
 
 /// Puts a listing at the end of a text, with the names of the variables and values that it is of: per variable a
-/// line `var NAME`, and per listed value a line `val NAME COST COST : NAME NAME ..` with the names of its word.
+/// line `var NAME`, and per listed value a line `val NAME COST COST : NAME NAME ..` with the names of its word. Want
+/// of memory may leave a part of it in the text.
 pub fn push_listing(
     text: &mut Text,
     variables: &[Variable],

@@ -42,21 +42,28 @@ fn variable(alloc: Global, name: &[u8], values: &[(&[u8], i64, i64)]) -> Result<
     })
 }
 
-fn bike_variables(alloc: Global) -> Result<Sequence<Variable>, Fail> {
+/// The spelling of a variable and its values, each with its costs.
+type Spelt<'a> = (&'a [u8], &'a [(&'a [u8], i64, i64)]);
+
+const BIKE: &[Spelt<'static>] = &[
+    (
+        b"frame",
+        &[(b"steel", 300, 2), (b"alloy", 500, 1), (b"carbon", 900, 5)],
+    ),
+    (b"wheel", &[(b"w26", 80, 1), (b"w28", 120, 1)]),
+    (b"light", &[(b"none", 0, 0), (b"led", 40, 1)]),
+];
+
+/// The first and the second variable have names in common, in another order.
+const LETTERS: &[Spelt<'static>] = &[
+    (b"x", &[(b"a", 0, 0), (b"b", 0, 0), (b"c", 0, 0)]),
+    (b"y", &[(b"b", 0, 0), (b"a", 0, 0), (b"d", 0, 0)]),
+    (b"z", &[(b"b", 0, 0), (b"e", 0, 0)]),
+];
+
+fn variables(alloc: Global, spelt: &[Spelt]) -> Result<Sequence<Variable>, Fail> {
     let mut variables = Sequence::new(alloc);
-    for (name, values) in [
-        (
-            b"frame".as_slice(),
-            [
-                (b"steel".as_slice(), 300, 2),
-                (b"alloy", 500, 1),
-                (b"carbon", 900, 5),
-            ]
-            .as_slice(),
-        ),
-        (b"wheel", &[(b"w26", 80, 1), (b"w28", 120, 1)]),
-        (b"light", &[(b"none", 0, 0), (b"led", 40, 1)]),
-    ] {
+    for (name, values) in spelt {
         variables.push(variable(alloc, name, values)?)?;
     }
     Ok(variables)
@@ -103,7 +110,7 @@ fn bike_rules(alloc: Global) -> Result<Sequence<Rule>, Fail> {
 
 fn bike(alloc: Global) -> Result<File, Fail> {
     let costs = names(alloc, &[b"price", b"days"])?;
-    let variables = bike_variables(alloc)?;
+    let variables = variables(alloc, BIKE)?;
     let rules = bike_rules(alloc)?;
     Ok(File::new(alloc, costs, variables, rules)?)
 }
@@ -168,6 +175,278 @@ fn names_have_positions(rt: HostRuntime) -> Result<(), Fail> {
         assert_eq!(rt; file.value(1, &name), None);
         assert_eq!(rt; file.value(3, &name), None);
         assert_eq!(rt; file.cost(&name), cost);
+    }
+    Ok(())
+}
+
+/// A file of the letters with at most one rule, if it keeps the limits.
+fn letters(alloc: Global, rule: Option<Rule>) -> Result<Result<File, FileFault>, Fail> {
+    let costs = names(alloc, &[b"price"])?;
+    let variables = variables(alloc, LETTERS)?;
+    let mut rules = Sequence::new(alloc);
+    if let Some(rule) = rule {
+        rules.push(rule)?;
+    }
+    Ok(File::new(alloc, costs, variables, rules))
+}
+
+fn one_of(alloc: Global, variable: u32, values: &[u32]) -> Result<Rule, Fail> {
+    let values = Sequence::from_slice(alloc, values)?;
+    Ok(Rule::OneOf { variable, values })
+}
+
+fn at_most(alloc: Global, most: u32, pairs: &[(u32, u32)]) -> Result<Rule, Fail> {
+    let members = members(alloc, pairs)?;
+    Ok(Rule::AtMost { most, members })
+}
+
+fn table(alloc: Global, these: &[u32], numbers: &[&[u32]]) -> Result<Rule, Fail> {
+    let variables = Sequence::from_slice(alloc, these)?;
+    let rows = rows(alloc, numbers)?;
+    Ok(Rule::Table { variables, rows })
+}
+
+/// A rule of each form in turn, which holds for the word 0 1 0.
+fn holding_rule(alloc: Global, form: u32) -> Result<Rule, Fail> {
+    match form {
+        0 => Ok(is(0, 0)),
+        1 => Ok(Rule::IsNot {
+            variable: 0,
+            value: 1,
+        }),
+        2 => one_of(alloc, 0, &[2, 0]),
+        3 => negated(alloc, is(0, 1)),
+        4 => Ok(Rule::And(members(alloc, &[(0, 0), (1, 1)])?)),
+        5 => Ok(Rule::Or(members(alloc, &[(0, 1), (1, 1)])?)),
+        6 => implied(alloc, is(0, 1), is(1, 0)),
+        7 => implied(alloc, is(0, 0), is(1, 1)),
+        8 => Ok(Rule::Same(0, 1)),
+        9 => at_most(alloc, 1, &[(0, 0), (1, 0)]),
+        _ => table(alloc, &[1, 0], &[&[0, 1], &[1, 0]]),
+    }
+}
+
+/// A rule of each form in turn, which doesn't hold for the word 0 1 0.
+fn broken_rule(alloc: Global, form: u32) -> Result<Rule, Fail> {
+    match form {
+        0 => Ok(is(0, 1)),
+        1 => Ok(Rule::IsNot {
+            variable: 0,
+            value: 0,
+        }),
+        2 => one_of(alloc, 0, &[1, 2]),
+        3 => negated(alloc, is(0, 0)),
+        4 => Ok(Rule::And(members(alloc, &[(0, 0), (1, 0)])?)),
+        5 => Ok(Rule::Or(members(alloc, &[(0, 1), (1, 0)])?)),
+        6 => implied(alloc, is(0, 0), is(1, 0)),
+        7 => Ok(Rule::Same(0, 2)),
+        8 => at_most(alloc, 1, &[(0, 0), (1, 1)]),
+        _ => table(alloc, &[1, 0], &[&[0, 1], &[1, 1]]),
+    }
+}
+
+#[test]
+fn rules_of_each_form_hold_or_not(rt: HostRuntime) -> Result<(), Fail> {
+    let file = letters(rt.alloc(), None)??;
+    let word = Word::from_slice(rt.alloc(), &[0, 1, 0])?;
+    for form in 0..11 {
+        assert!(rt;
+            holds(&file, &holding_rule(rt.alloc(), form)?, &word),
+            "{form}"
+        );
+    }
+    for form in 0..10 {
+        assert!(rt;
+            !holds(&file, &broken_rule(rt.alloc(), form)?, &word),
+            "{form}"
+        );
+    }
+    Ok(())
+}
+
+fn is_refused(file: &Result<File, FileFault>) -> bool {
+    matches!(file, Err(FileFault::Limit))
+}
+
+const ONE: &[&[u8]] = &[b"price"];
+
+const TWO: &[&[u8]] = &[b"price", b"days"];
+
+const TINY: &[Spelt<'static>] = &[(b"x", &[(b"a", 0, 0)])];
+
+/// Names of costs, variables with their values, and whether they make no file.
+const SPELT: &[(&[&[u8]], &[Spelt<'static>], bool)] = &[
+    (ONE, TINY, false),
+    (&[], TINY, true),
+    (&[b"price", b"days", b"weight"], TINY, true),
+    (&[b"price", b"price"], TINY, true),
+    (ONE, &[], true),
+    (
+        ONE,
+        &[(b"x", &[(b"a", 0, 0)]), (b"x", &[(b"a", 0, 0)])],
+        true,
+    ),
+    (
+        ONE,
+        &[(b"x", &[(b"a", 0, 0)]), (b"y", &[(b"a", 0, 0)])],
+        false,
+    ),
+    (ONE, &[(b"atmost", &[(b"a", 0, 0)])], true),
+    (ONE, &[(b"x", &[(b"atmost", 0, 0)])], false),
+    (ONE, &[(b"x", &[])], true),
+    (ONE, &[(b"x", &[(b"a", 0, 0), (b"a", 0, 0)])], true),
+    (ONE, &[(b"x", &[(b"a", 1_000_000_000, 0)])], false),
+    (ONE, &[(b"x", &[(b"a", 1_000_000_001, 0)])], true),
+    (TWO, &[(b"x", &[(b"a", 0, -1_000_000_000)])], false),
+    (TWO, &[(b"x", &[(b"a", 0, -1_000_000_001)])], true),
+    (ONE, &[(b"x", &[(b"a", 0, 1)])], true),
+];
+
+#[test]
+fn costs_and_variables_have_limits(rt: HostRuntime) -> Result<(), Fail> {
+    for (row, (costs, spelt, refused)) in SPELT.iter().enumerate() {
+        let costs = names(rt.alloc(), costs)?;
+        let variables = variables(rt.alloc(), spelt)?;
+        let file = File::new(rt.alloc(), costs, variables, Sequence::new(rt.alloc()));
+        assert_eq!(rt; is_refused(&file), *refused, "row {row}");
+    }
+    Ok(())
+}
+
+/// The name `n` with a number.
+fn numbered(alloc: Global, number: u64) -> Result<Name, Fail> {
+    let mut text = Text::from_slice(alloc, b"n")?;
+    text.push_unsigned(number)?;
+    Ok(Name::read(text.as_slice())?)
+}
+
+/// A file of so many variables, each with so many values, and so many rules.
+fn many(alloc: Global, counts: (u64, u64, u64)) -> Result<Result<File, FileFault>, Fail> {
+    let costs = names(alloc, &[b"price"])?;
+    let mut variables = Sequence::new(alloc);
+    for number in 0..counts.0 {
+        let mut values = Sequence::new(alloc);
+        for value in 0..counts.1 {
+            let name = numbered(alloc, value)?;
+            values.push(Value {
+                name,
+                first: 0,
+                second: 0,
+            })?;
+        }
+        let name = numbered(alloc, number)?;
+        variables.push(Variable { name, values })?;
+    }
+    let mut rules = Sequence::new(alloc);
+    for _ in 0..counts.2 {
+        rules.push(is(0, 0))?;
+    }
+    Ok(File::new(alloc, costs, variables, rules))
+}
+
+#[test]
+fn counts_have_limits(rt: HostRuntime) -> Result<(), Fail> {
+    for (counts, refused) in [
+        ((64, 64, 1024), false),
+        ((65, 1, 0), true),
+        ((1, 65, 0), true),
+        ((1, 1, 1025), true),
+    ] {
+        let file = many(rt.alloc(), counts)?;
+        assert_eq!(rt; is_refused(&file), refused, "{counts:?}");
+    }
+    Ok(())
+}
+
+#[test]
+fn plain_lists_have_a_limit(rt: HostRuntime) -> Result<(), Fail> {
+    let file = many(rt.alloc(), (17, 2, 0))??;
+    assert!(rt; !has_few_words(&file));
+    let none = matches!(plain_products(rt.alloc(), &file), Err(PlainFault::TooMany));
+    assert!(rt; none);
+    let file = many(rt.alloc(), (16, 2, 0))??;
+    assert_eq!(rt; plain_products(rt.alloc(), &file)?.len(), 65_536);
+    Ok(())
+}
+
+/// A rule with something wrong in it, for the letters.
+fn wrong_rule(alloc: Global, fault: u32) -> Result<Rule, Fail> {
+    match fault {
+        0 => Ok(is(0, 3)),
+        1 => Ok(Rule::IsNot {
+            variable: 3,
+            value: 0,
+        }),
+        2 => one_of(alloc, 0, &[]),
+        3 => one_of(alloc, 0, &[1, 1]),
+        4 => one_of(alloc, 0, &[0, 3]),
+        5 => negated(alloc, is(0, 3)),
+        6 => Ok(Rule::And(members(alloc, &[(0, 0)])?)),
+        7 => Ok(Rule::Or(members(alloc, &[(0, 0)])?)),
+        8 => implied(alloc, is(0, 0), is(3, 0)),
+        9 => Ok(Rule::Same(0, 3)),
+        10 => at_most(alloc, 65, &[(0, 0)]),
+        11 => at_most(alloc, 0, &[]),
+        12 => table(alloc, &[], &[&[]]),
+        13 => table(alloc, &[0], &[]),
+        14 => table(alloc, &[0, 1], &[&[0, 0], &[0]]),
+        15 => table(alloc, &[0, 0], &[&[0, 0]]),
+        _ => table(alloc, &[0], &[&[3]]),
+    }
+}
+
+/// So many members `x = a` of an `atmost`.
+fn at_most_of_many(alloc: Global, count: u32) -> Result<Rule, Fail> {
+    let mut members = Items::new(alloc);
+    for _ in 0..count {
+        members.push(is(0, 0))?;
+    }
+    Ok(Rule::AtMost { most: 64, members })
+}
+
+/// A rule in so many negations, or at the front of so many implications.
+fn nested(alloc: Global, depth: u32, by_negation: bool) -> Result<Rule, Fail> {
+    let mut rule = is(0, 0);
+    for _ in 0..depth {
+        rule = if by_negation {
+            negated(alloc, rule)?
+        } else {
+            implied(alloc, rule, is(0, 0))?
+        };
+    }
+    Ok(rule)
+}
+
+#[test]
+fn rules_have_limits(rt: HostRuntime) -> Result<(), Fail> {
+    for fault in 0..17 {
+        let rule = wrong_rule(rt.alloc(), fault)?;
+        assert!(rt; is_refused(&letters(rt.alloc(), Some(rule))?), "{fault}");
+    }
+    for form in 0..11 {
+        let rule = holding_rule(rt.alloc(), form)?;
+        assert!(rt; !is_refused(&letters(rt.alloc(), Some(rule))?), "{form}");
+    }
+    for (count, refused) in [(64, false), (65, true)] {
+        let rule = at_most_of_many(rt.alloc(), count)?;
+        assert_eq!(rt;
+            is_refused(&letters(rt.alloc(), Some(rule))?),
+            refused,
+            "{count}"
+        );
+    }
+    for (depth, by_negation, refused) in [
+        (65, true, false),
+        (66, true, true),
+        (65, false, false),
+        (66, false, true),
+    ] {
+        let rule = nested(rt.alloc(), depth, by_negation)?;
+        assert_eq!(rt;
+            is_refused(&letters(rt.alloc(), Some(rule))?),
+            refused,
+            "{depth}"
+        );
     }
     Ok(())
 }

@@ -5,9 +5,9 @@ use Rattle.std.proofs.lemmas.List.{append-nil}
 use Rattle.pc_io.specs.declared.line_fault.LineFault.{LineFault}
 use Rattle.pc_io.specs.declared.line_fault.LineFault.TheVariants.{LineTooLong, TotalTooLong}
 use Rattle.pc_io.specs.Held.{Held, held}
-use Rattle.pc_io.specs.Lines.{HasNoFeed, first_line, from_feed, is_long, is_over}
+use Rattle.pc_base.specs.Lines.{HasNoFeed, first_line, from_feed, is_long, is_over}
 use Rattle.pc_io.specs.NextLine.{Answer, answer_to, taken}
-use Rattle.pc_io.proofs.LineCuts.{first_line-at_feed, first_line-whole, from_feed-at_feed, from_feed-none, length-first_line-append, length-first_line-take}
+use Rattle.pc_base.proofs.LineCuts.{first_line-at_feed, first_line-whole, from_feed-at_feed, from_feed-none, length-first_line-append, length-first_line-take}
 
 -- the tests of the limits, by numbers
 

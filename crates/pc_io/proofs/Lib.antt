@@ -1,6 +1,5 @@
 pub mod CalledFor
 pub mod LimitSteps
-pub mod LineCuts
 pub mod LinesTaken
 pub mod Pieces
 pub mod PlannedFaults

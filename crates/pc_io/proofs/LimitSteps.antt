@@ -7,10 +7,10 @@ use Rattle.std.proofs.lemmas.List.{append-nil, take-append-le, take_all}
 use Rattle.pc_io.specs.declared.line_fault.LineFault.{LineFault}
 use Rattle.pc_io.specs.declared.line_fault.LineFault.TheVariants.{LineTooLong, TotalTooLong}
 use Rattle.pc_io.specs.Limits.{broken_limit}
-use Rattle.pc_io.specs.Lines.{HasNoFeed, first_line, from_feed, is_feed, is_long, is_over, lines}
+use Rattle.pc_base.specs.Lines.{HasNoFeed, first_line, from_feed, is_feed, is_long, is_over, lines}
 use Rattle.pc_io.specs.NextLine.{answer_to, taken}
 use Rattle.pc_io.proofs.CalledFor.{answer-end, answer-line, answer-long, answer-over}
-use Rattle.pc_io.proofs.LineCuts.{HasNoFeed-first_line, HasNoFeed-take, first_line-from_feed, first_line-whole, length-first_line-le, lines-feed_after, lines-first, lines-last, lines-nil}
+use Rattle.pc_base.proofs.LineCuts.{HasNoFeed-first_line, HasNoFeed-take, first_line-from_feed, first_line-whole, length-first_line-le, lines-feed_after, lines-first, lines-last, lines-nil}
 
 -- some line is longer than the limit
 abbrev some_long : ℕ → List ℕ → Bool

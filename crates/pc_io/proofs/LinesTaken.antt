@@ -3,9 +3,9 @@ use Rattle.std.proofs.Common.{◌≡◌, ℕ, ◌<◌, Bool, true, false, List, 
 use Rattle.std.specs.Option.{option_map}
 use Rattle.std.specs.Io.KnownBytes.{IsAtEnd, prepend_known}
 use Rattle.std.proofs.lemmas.List.{append-nil}
-use Rattle.pc_io.specs.Lines.{HasNoFeed, lines}
+use Rattle.pc_base.specs.Lines.{HasNoFeed, lines}
 use Rattle.pc_io.specs.NextLine.{taken}
-use Rattle.pc_io.proofs.LineCuts.{lines-feed_after, lines-last, lines-nil}
+use Rattle.pc_base.proofs.LineCuts.{lines-feed_after, lines-last, lines-nil}
 
 lines_at_end : (line : List ℕ) → HasNoFeed line → 0 < length line → lines line ≡ line ∷ lines []
 lines_at_end [] h some = absurd (omega arith)

@@ -6,8 +6,8 @@ use Rattle.std.proofs.lemmas.Bool.{both_ways, cases_Bool, cases_lt, eqb-true, eq
 use Rattle.std.proofs.lemmas.List.{append-nil, nil_from_length}
 use Rattle.pc_io.specs.Aside.{Aside}
 use Rattle.pc_io.specs.Held.{Held, held}
-use Rattle.pc_io.specs.Lines.{HasNoFeed, is_feed, first_line, from_feed}
-use Rattle.pc_io.proofs.LineCuts.{HasNoFeed-append, HasNoFeed-first_line, first_line-append, first_line-from_feed, from_feed-begins, take-first_line, drop-first_line}
+use Rattle.pc_base.specs.Lines.{HasNoFeed, is_feed, first_line, from_feed}
+use Rattle.pc_base.proofs.LineCuts.{HasNoFeed-append, HasNoFeed-first_line, first_line-append, first_line-from_feed, from_feed-begins, take-first_line, drop-first_line}
 use Rattle.pc_io.proofs.Pieces.{prepend_known-append}
 
 -- from `start` on, with a source that is the same where `Same` holds

@@ -8,7 +8,7 @@ use Rattle.pc_io.specs.declared.line_fault.LineFault.{LineFault}
 use Rattle.pc_io.specs.Aside.{Aside}
 use Rattle.pc_io.specs.Cutter.{Cutter, left_to_give, stream}
 use Rattle.pc_io.specs.Limits.{broken_limit, text_or, text_within}
-use Rattle.pc_io.specs.Lines.{HasNoFeed, is_feed}
+use Rattle.pc_base.specs.Lines.{HasNoFeed, is_feed}
 use Rattle.pc_io.specs.NextLine.{answer_to, taken}
 use Rattle.pc_io.proofs.LimitSteps.{answer-breaks, broken-nil, broken-step}
 use Rattle.pc_io.proofs.Pieces.{prepend_known-append}

@@ -3,7 +3,7 @@ use Rattle.std.proofs.Common.{◌≡◌, [], ◌∷◌, Some, None, Ok, Err, ref
 use Rattle.pc_io.specs.declared.line_fault.LineFault.TheVariants.{LineTooLong, TotalTooLong}
 use Rattle.pc_io.specs.Calls.{failed_among}
 use Rattle.pc_io.specs.Limits.{broken_limit}
-use Rattle.pc_io.specs.Lines.{first_line, from_feed, lines}
+use Rattle.pc_base.specs.Lines.{first_line, from_feed, lines}
 use Rattle.pc_io.specs.NextLine.{answer_to}
 
 two_lines : lines (1 ∷ 2 ∷ 10 ∷ 3 ∷ 10 ∷ []) ≡ (1 ∷ 2 ∷ []) ∷ (3 ∷ []) ∷ []

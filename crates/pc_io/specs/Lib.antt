@@ -3,7 +3,6 @@ pub mod Calls
 pub mod Cutter
 pub mod Held
 pub mod Limits
-pub mod Lines
 pub mod Memory
 pub mod NextLine
 pub mod Reached

@@ -3,7 +3,7 @@ use Rattle.std.specs.Prelude.{ℕ, List, length, take, nat_lt, if◌then◌else�
 use Rattle.std.specs.List.{list_any}
 use Rattle.pc_io.specs.declared.line_fault.LineFault.{LineFault}
 use Rattle.pc_io.specs.declared.line_fault.LineFault.TheVariants.{LineTooLong, TotalTooLong}
-use Rattle.pc_io.specs.Lines.{lines}
+use Rattle.pc_base.specs.Lines.{lines}
 
 -- the limit that bytes break: some line of those up to the total limit is too long, or there are more bytes than that
 unfoldable pub broken_limit : ℕ → ℕ → List ℕ → Option LineFault

@@ -2,7 +2,7 @@
 use Rattle.std.specs.Prelude.{ℕ, Bool, true, false, List, [], ◌∷◌, ◌++◌, length, nat_lt, if◌then◌else◌, Option, None, Some, Result, Ok, Err, ⊤}
 use Rattle.pc_io.specs.declared.line_fault.LineFault.{LineFault}
 use Rattle.pc_io.specs.declared.line_fault.LineFault.TheVariants.{ReadFault, LineTooLong, TotalTooLong, NoMemory}
-use Rattle.pc_io.specs.Lines.{first_line, is_long, is_over}
+use Rattle.pc_base.specs.Lines.{first_line, is_long, is_over}
 
 -- a line, the end, or a fault
 abbrev pub Answer : Type 0

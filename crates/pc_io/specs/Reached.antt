@@ -3,7 +3,7 @@ use Rattle.std.specs.Prelude.{◌≡◌, ℕ, ◌<◌, ◌≤◌, true, [], ◌�
 use Rattle.pc_io.specs.declared.reading.Reached.{Reached}
 use Rattle.pc_io.specs.declared.reading.Reached.TheVariants.{LineFeed, End, Limit, Fault}
 use Rattle.pc_io.specs.Held.{Held, held}
-use Rattle.pc_io.specs.Lines.{first_line}
+use Rattle.pc_base.specs.Lines.{first_line}
 
 -- the part is a line of at most so many bytes, up to a line feed or the end; or the line has more bytes; or a read failed with nothing ahead
 abbrev pub Reaches : Reached → ℕ → Held → Type 0

@@ -6,7 +6,7 @@ ghost use Rattle.std.specs.Option.{option_map};
 ghost use Rattle.std.specs.Io.KnownBytes.{IsAtEnd, prepend_known};
 ghost use Rattle.pc_base.specs.Rose.{Rose};
 ghost use Rattle.pc_io.specs.Cutter.{left_to_give, stream};
-ghost use Rattle.pc_io.specs.Lines.{HasNoFeed, is_feed, lines};
+ghost use Rattle.pc_base.specs.Lines.{HasNoFeed, is_feed, lines};
 ghost use Rattle.pc_io.specs.NextLine.{IfLine, answer_to, fault_left, is_from_outside, lasting, taken};
 
 use crate::cutting::cut_line;
@@ -36,7 +36,7 @@ impl Model for Lines {
     ghost use Rattle.std.specs.Prelude.{◌≡◌, ◌≤◌, [], Some, IsTrue, option_and_then};
     ghost use Rattle.pc_io.specs.Cutter.{Cutter};
     ghost use Rattle.pc_io.specs.Held.{held};
-    ghost use Rattle.pc_io.specs.Lines.{HasNoFeed};
+    ghost use Rattle.pc_base.specs.Lines.{HasNoFeed};
     ghost use Rattle.pc_io.specs.NextLine.{lasting};
     ghost use Rattle.pc_io.specs.declared.line_fault.LineFault.TheVariants.{ReadFault};
 

@@ -3,7 +3,7 @@
 ghost use Rattle.std.specs.Prelude.{◌≡◌, ◌+◌, ◌<◌, ◌≤◌, ◌↔◌, ◌++◌, [], false, nat_eq, length, take, drop, IfNone, IfSome, IfOk, OnOk, OnErr, IsTrue};
 ghost use Rattle.std.specs.Io.KnownBytes.{IsAtEnd, prepend_known};
 ghost use Rattle.pc_base.specs.Rose.{Rose};
-ghost use Rattle.pc_io.specs.Lines.{first_line};
+ghost use Rattle.pc_base.specs.Lines.{first_line};
 
 use crate::failed::Failed;
 use crate::source::Source;

@@ -5,7 +5,7 @@ ghost use Rattle.std.specs.List.{list_any};
 ghost use Rattle.std.specs.Io.KnownBytes.{IsAtEnd, prepend_known};
 ghost use Rattle.pc_base.specs.Rose.{Rose};
 ghost use Rattle.pc_io.specs.Held.{held};
-ghost use Rattle.pc_io.specs.Lines.{HasNoFeed, is_feed};
+ghost use Rattle.pc_base.specs.Lines.{HasNoFeed, is_feed};
 ghost use Rattle.pc_io.specs.Reached.{Reaches};
 
 use crate::pending::Pending;

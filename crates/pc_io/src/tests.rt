@@ -1,5 +1,5 @@
 ghost use Rattle.std.specs.Prelude.{◌≡◌, ◌<◌, IfOk, IfSome};
-ghost use Rattle.pc_io.specs.Lines.{lines};
+ghost use Rattle.pc_base.specs.Lines.{lines};
 
 use super::*;
 use pc_base::{Line, Sequence, Text, crosses_threads};

@@ -1,5 +1,6 @@
 pub mod BikeText
 pub mod CountLemmas
+pub mod CrowdLemmas
 pub mod Depth
 pub mod FaultLemmas
 pub mod GrammarComplete

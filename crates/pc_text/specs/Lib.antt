@@ -1,5 +1,6 @@
 pub mod Arguments
 pub mod Counts
+pub mod Crowded
 pub mod FirstFault
 pub mod Given
 pub mod Grammar

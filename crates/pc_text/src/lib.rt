@@ -4,6 +4,7 @@
 
 mod checks;
 mod count;
+mod crowding;
 mod cursor;
 mod fault;
 mod forms;
@@ -27,7 +28,7 @@ mod words;
 pub use fault::RuleFault;
 pub use kind::Kind;
 pub use rule_text::read_rule;
-pub use text::read_file;
+pub use text::{crowded_line, read_file};
 pub use text_fault::TextFault;
 
 #[cfg(test)]

@@ -10,12 +10,16 @@ ghost use Rattle.pc_text.specs.declared.kind.Kind.{Kind};
 ghost use Rattle.pc_text.specs.Given.{argument, catalogue_of, contents_given, give, give_rule, give_statement, number_at, variables_given, with_value};
 ghost use Rattle.pc_text.specs.Orders.{is_cost_text, fault_of_rule, first_standing, or_else, orders_within, rule_fault, statement_fault};
 ghost use Rattle.pc_text.specs.FirstFault.{line_fault, give_line};
+ghost use Rattle.std.specs.Option.{option_to_list};
+ghost use Rattle.pc_file.specs.Products.{value_counts, word_count};
+ghost use Rattle.pc_text.specs.Crowded.{is_crowded};
 ghost use Rattle.pc_text.specs.LineWords.{words};
 ghost use Rattle.pc_text.specs.declared.kind.Kind.TheVariants.{Header};
 ghost use Rattle.pc_text.specs.RuleText.{rule_of};
 ghost use Rattle.pc_text.specs.Told.{Answers};
 ghost use Rattle.pc_text.specs.declared.keyword.Keyword.TheVariants as keyword;
 
+use crate::crowding::words_before;
 use crate::fault::RuleFault;
 use crate::keyword::Keyword;
 use crate::kind::Kind;
@@ -112,6 +116,26 @@ impl Reader {
         ensures { result ≡ (given_of self.now).last }
     {
         self.last
+    }
+
+    /// Whether the numbers of values of the variables so far multiply to more than 65,536.
+    pub fn is_crowded(&self) -> bool
+        ensures { result ≡ is_crowded (given_of self.now) }
+    {
+        match words_before(self.closed.as_slice(), self.open_values()) {
+            Some(_) => false,
+            None => true,
+        }
+    }
+
+    /// In how many ways a word goes on over the open variable.
+    fn open_values(&self) -> usize
+        ensures { result ≡ word_count (value_counts (option_to_list (given_of self.now).open_variable)) }
+    {
+        match &self.open_variable {
+            None => 1,
+            Some(variable) => variable.values.len(),
+        }
     }
 
     /// A line that isn't skipped, by its keyword and the bytes after that.

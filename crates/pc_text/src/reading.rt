@@ -1,6 +1,7 @@
 //! Reading a text from its first line to its last.
 
-ghost use Rattle.std.specs.Prelude.{◌≡◌};
+ghost use Rattle.std.specs.Prelude.{◌≡◌, if◌then◌else◌, Some, None};
+ghost use Rattle.pc_text.specs.Crowded.{crowded_line, is_crowded, or_first};
 ghost use Rattle.pc_text.specs.FirstFault.{end_fault, first_fault, give_line, given_by, is_large, line_fault};
 ghost use Rattle.pc_text.specs.Reader.{Holds, IsIndexed, given_of};
 ghost use Rattle.pc_text.specs.Told.{AnswersAt, ReadsText};
@@ -20,13 +21,22 @@ const LINES: u64 = 8_192;
 
 const TEXT_BYTES: usize = 1_048_576;
 
+/// What the lines of a text give, and the number of the first line at which the numbers of values of the variables so
+/// far multiply to more than 65,536.
+#[derive(Debug, Drop)]
+pub struct Statements {
+    pub reader: Reader,
+    pub crowded: Option<u64>,
+}
+
 /// What all lines of a text give, or the first fault.
-pub fn read_statements(alloc: Global, text: &[u8]) -> Result<Reader, TextFault>
-    ensures { ReadsText (λ reader. Holds reader (given_by text.now)) result (first_fault text.now) }
+pub fn read_statements(alloc: Global, text: &[u8]) -> Result<Statements, TextFault>
+    ensures { ReadsText (λ statements. Holds statements.reader (given_by text.now) × (statements.crowded ≡ crowded_line text.now)) result (first_fault text.now) }
 {
     let mut reader = Reader::new(alloc);
     let mut rest = text;
     let mut number = 1;
+    let mut crowded = None;
     while !rest.is_empty() {
         let (line, after) = cut_line(rest);
         if is_large(number, text.len() - after.len(), line) {
@@ -38,13 +48,24 @@ pub fn read_statements(alloc: Global, text: &[u8]) -> Result<Reader, TextFault>
         if let Err(fault) = take_line(alloc, &mut reader, number, line) {
             return Err(fault);
         }
+        crowded = first_crowded(crowded, &reader, number);
         rest = after;
         number += 1;
     }
     match end_fault(reader.last()) {
         Some(kind) => Err(TextFault::At { line: number, kind }),
-        None => Ok(reader),
+        None => Ok(Statements { reader, crowded }),
     }
+}
+
+/// The line that was crowded first, where this one is read.
+fn first_crowded(crowded: Option<u64>, reader: &Reader, number: u64) -> Option<u64>
+    ensures { result ≡ or_first crowded (if is_crowded (given_of reader.now) then Some number else None) }
+{
+    if crowded.is_none() && reader.is_crowded() {
+        return Some(number);
+    }
+    crowded
 }
 
 /// The next line, with its number, which a fault tells.

@@ -1,7 +1,8 @@
 //! The file that a text spells.
 
-ghost use Rattle.std.specs.Prelude.{◌≡◌, IfOk};
+ghost use Rattle.std.specs.Prelude.{◌≡◌, true, IfOk, IsSome};
 ghost use Rattle.pc_file.specs.Limits.{Contents};
+ghost use Rattle.pc_text.specs.Crowded.{crowded_line, is_crowded};
 ghost use Rattle.pc_text.specs.FirstFault.{first_fault, given_by};
 ghost use Rattle.pc_text.specs.Given.{contents_given};
 ghost use Rattle.pc_text.specs.Spells.{GivesFile, Spells};
@@ -19,11 +20,23 @@ pub fn read_file(alloc: Global, text: &[u8]) -> Result<File, TextFault>
     ensures only { (file : Contents) → Spells text.now file → GivesFile file result }
 {
     match read_statements(alloc, text) {
-        Ok(reader) => match reader.into_file(alloc) {
+        Ok(statements) => match statements.reader.into_file(alloc) {
             Ok(file) => Ok(file),
             Err(FileFault::Limit) => unreachable!(),
             Err(FileFault::NoMemory) => Err(TextFault::NoMemory),
         },
+        Err(fault) => Err(fault),
+    }
+}
+
+/// The number of the first line, counted from 1, at which the numbers of values of the variables so far multiply to
+/// more than 65,536; `None` where they never do. It is a line with a value.
+pub fn crowded_line(alloc: Global, text: &[u8]) -> Result<Option<u64>, TextFault>
+    ensures exact { ReadsText (λ line. line ≡ crowded_line text.now) result (first_fault text.now) }
+    ensures found { is_crowded (given_by text.now) ≡ true → IfOk result IsSome }
+{
+    match read_statements(alloc, text) {
+        Ok(statements) => Ok(statements.crowded),
         Err(fault) => Err(fault),
     }
 }

@@ -1,9 +1,9 @@
 use Rattle.std.proofs.Common.{ℕ, List, ap, refl, sym, ◌∙◌, arith}
 use Rattle.std.specs.List.{list_any}
 use Rattle.pc_io.specs.Held.{Held}
-use Rattle.pc_io.specs.Lines.{is_feed}
+use Rattle.pc_base.specs.Lines.{is_feed}
 use Rattle.std.proofs.lemmas.Bool.{false≢true}
-use Rattle.pc_io.proofs.LineCuts.{length-first_line-le}
+use Rattle.pc_base.proofs.LineCuts.{length-first_line-le}
 use Rattle.pc_io.proofs.ReadingKept.{feed_ahead, fits_unless_past, held-moved, limit_reached, moved_is, nearer, no_feed-moved, none_ahead, not_unread, stream_on}
 use Rattle.pc_io.proofs.reading.read_line.Goals as goal
 

@@ -2,7 +2,7 @@ use Rattle.std.proofs.Common.{◌≡◌, ◌-◌, ◌++◌, IsTrue}
 use Rattle.std.specs.Option.{option_map}
 use Rattle.std.specs.Io.KnownBytes.{IsAtEnd}
 use Rattle.pc_io.specs.Cutter.{stream}
-use Rattle.pc_io.specs.Lines.{lines}
+use Rattle.pc_base.specs.Lines.{lines}
 use Rattle.pc_io.proofs.tests.each_line.Given as goal
 
 abbrev pub invariant-loop-all : goal.invariant-loop-all

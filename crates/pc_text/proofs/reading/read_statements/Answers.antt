@@ -8,10 +8,13 @@ use Rattle.pc_text.specs.declared.kind.Kind.{Kind}
 use Rattle.pc_text.specs.declared.kind.Kind.TheVariants.{Size}
 use Rattle.pc_text.specs.declared.text_fault.TextFault.{TextFault}
 use Rattle.pc_text.specs.declared.text_fault.TextFault.TheVariants.{At, NoMemory}
+use Rattle.pc_text.specs.declared.reading.Statements.{Statements}
 use Rattle.pc_text.specs.Told.{AnswersAt, ReadsText}
 use Rattle.pc_text.specs.Given.{Given}
 use Rattle.pc_text.specs.FirstFault.{is_large, end_fault, at, fault_from, given_from, first_fault, given_by, give_line, line_fault}
 use Rattle.pc_text.specs.Reader.{Holds, given_of}
+use Rattle.pc_text.specs.Crowded.{crowded_line}
+use Rattle.pc_text.proofs.CrowdLemmas.{crowded_more, crowded_all}
 use Rattle.pc_text.proofs.FaultLemmas.{given_step, fault_end, given_end, less_after, stops_large, stops_faulty, goes_on}
 use Rattle.pc_text.proofs.reading.read_statements.Goals as goal
 
@@ -43,7 +46,7 @@ returns-in-Err c =
     let some : 0 < length rest = grind (arith, c.is_empty.ensures, c.loop-rest-test.true) in
     let i = c.loop-rest.invariant in
     let small : is_large c.loop-rest.number (length text - length c.cut_line.result.1.now) line ≡ false = sym c.is_large.ensures ∙ c.if-is_large.false in
-    told (λ reader. Holds reader (given_by text)) c.in-Err.fault c.loop-rest.number (line_fault given line) (Holds c.take_line.new.reader (give_line given line)) (first_fault text)
+    told (λ (statements : Statements). Holds statements.reader (given_by text) × (statements.crowded ≡ crowded_line text)) c.in-Err.fault c.loop-rest.number (line_fault given line) (Holds c.take_line.new.reader (give_line given line)) (first_fault text)
     (λ kind. stops_faulty given c.loop-rest.number text rest line c.cut_line.result.1.now some i.within c.cut_line.ensures.line c.cut_line.ensures.after i.fault kind small)
     c.in-Err.ensures
 
@@ -77,6 +80,8 @@ loop-rest-preserved c =
       numbered = few (length line) (length text - length after) number true small;
       fault = rw answer.1.holds (goes_on given number text rest line after some i.within c.cut_line.ensures.line c.cut_line.ensures.after i.fault small answer.0);
       given = rw (answer.1.holds, c.cut_line.ensures.after, c.cut_line.ensures.line) (sym (given_step given rest some) ∙ i.given);
+      crowded = rw (c.first_crowded-crowded.ensures, c.cut_line.ensures.after)
+          (crowded_more c.loop-rest.crowded given (given_of c.take_line.new.reader) number rest (crowded_line text) some (answer.1.holds ∙ ap (give_line given) c.cut_line.ensures.line) i.crowded);
     }
 
 pub returns-in-Some : goal.returns-in-Some
@@ -95,8 +100,9 @@ returns-in-None c =
     let rest = c.loop-rest.rest.now in
     let text = c.args.text.now in
     let empty : rest ≡ [] = nil_from_length rest (grind (arith, c.is_empty.ensures, c.loop-rest-test.false)) in
-    let given = given_of c.loop-rest.reader in (
-      sym i.fault ∙ fault_end given c.loop-rest.number (length text - length rest) (length text) rest empty ∙ ap (λ last. at c.loop-rest.number (end_fault last)) (sym c.last.ensures)
-          ∙ ap (at c.loop-rest.number) (sym c.in-None.ensures),
-      record { indexed = i.indexed; holds = sym (given_end given rest empty) ∙ i.given },
-    )
+    let given = given_of c.loop-rest.reader in
+    let held : Holds c.loop-rest.reader (given_by text) = record { indexed = i.indexed; holds = sym (given_end given rest empty) ∙ i.given } in
+    let sound : first_fault text ≡ None =
+    sym i.fault ∙ fault_end given c.loop-rest.number (length text - length rest) (length text) rest empty ∙ ap (λ last. at c.loop-rest.number (end_fault last)) (sym c.last.ensures)
+    ∙ ap (at c.loop-rest.number) (sym c.in-None.ensures) in
+    (sound, (held, crowded_all c.loop-rest.crowded given c.loop-rest.number rest (crowded_line text) empty i.crowded))

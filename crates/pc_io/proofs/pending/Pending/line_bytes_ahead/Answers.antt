@@ -1,5 +1,5 @@
 use Rattle.std.proofs.Common.{sym, arith}
-use Rattle.pc_io.proofs.LineCuts.{length-first_line-nowhere, length-first_line-first}
+use Rattle.pc_base.proofs.LineCuts.{length-first_line-nowhere, length-first_line-first}
 use Rattle.pc_io.proofs.pending.Pending.line_bytes_ahead.Goals as goal
 
 pub returns-in-Some : goal.returns-in-Some

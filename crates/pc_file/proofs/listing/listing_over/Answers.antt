@@ -2,7 +2,7 @@ use Rattle.std.proofs.Common.{◌≡◌, length, ap, sym, subst, ◌∙◌}
 use Rattle.pc_diagram.specs.Costs.{IsPriced}
 use Rattle.pc_file.specs.Costs.{costs_of}
 use Rattle.pc_file.proofs.CostLemmas.{priced}
-use Rattle.pc_file.proofs.listing.plain_listing.Goals as goal
+use Rattle.pc_file.proofs.listing.listing_over.Goals as goal
 
 pub listing-requires : goal.listing-requires
 listing-requires c =

@@ -1,0 +1,30 @@
+//! How many words there are over the variables so far.
+
+ghost use Rattle.std.specs.Prelude.{◌≡◌, ◌≤◌, ◌<◌, MatchOption};
+ghost use Rattle.pc_file.specs.Products.{value_counts};
+ghost use Rattle.pc_text.specs.Crowded.{words_before};
+
+use pc_file::Variable;
+
+/// The most words that the plain list of products goes through.
+const MOST_WORDS: usize = 65_536;
+
+/// How many words there are over these variables, each of which goes on in `more` ways, where there are at most
+/// 65,536.
+pub fn words_before(variables: &[Variable], more: usize) -> Option<usize>
+    ensures { MatchOption result (65536 < words_before (value_counts variables.now) more)
+        (λ count. (count ≡ words_before (value_counts variables.now) more) × (count ≤ 65536)) }
+{
+    let Some((variable, others)) = variables.split_first() else {
+        return (more <= MOST_WORDS).then_some(more);
+    };
+    let count = variable.values.len();
+    if count == 0 {
+        return Some(0);
+    }
+    let after = words_before(others, more)?;
+    match count.checked_mul(after) {
+        Some(words) if words <= MOST_WORDS => Some(words),
+        _ => None,
+    }
+}

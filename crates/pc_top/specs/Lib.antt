@@ -1,0 +1,5 @@
+pub mod ListReply
+pub mod ListOutcome
+pub mod Words
+pub mod Status
+pub mod Reply

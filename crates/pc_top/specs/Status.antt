@@ -1,0 +1,13 @@
+-- Exit statuses.
+use Rattle.std.specs.Prelude.{ℕ}
+use Rattle.pc_top.specs.declared.status.Status.{Status}
+use Rattle.pc_top.specs.declared.status.Status.TheVariants.{Done, WrongWords, Refused, ReadFault, WriteFault, NoMemory, TooLong}
+
+abbrev pub code : Status → ℕ
+code Done = 0
+code WrongWords = 2
+code Refused = 3
+code ReadFault = 4
+code WriteFault = 5
+code NoMemory = 6
+code TooLong = 7

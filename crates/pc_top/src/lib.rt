@@ -1,0 +1,13 @@
+//! The program: what each form of the command line reads and writes, over any source and sink.
+#![tactic(auto)]
+
+mod list;
+mod list_reply;
+mod program;
+mod status;
+
+pub use program::run;
+pub use status::Status;
+
+#[cfg(test)]
+mod tests;

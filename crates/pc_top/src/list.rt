@@ -1,0 +1,45 @@
+//! `list`: a product text in, its open listing out.
+
+ghost use Rattle.std.specs.Prelude.{◌≡◌, ◌≤◌, false, None, Some, IfSome};
+ghost use Rattle.pc_base.specs.Rose.{Rose};
+ghost use Rattle.pc_top.specs.ListOutcome.{Leaves, is_fault, status_by_text};
+ghost use Rattle.pc_top.specs.ListReply.{list_reply};
+
+use crate::list_reply::Reply;
+use crate::status::Status;
+use pc_base::{NoMemory, Text};
+use pc_io::{LineFault, Sink, Source, put_all, whole_text};
+use std::alloc::Global;
+
+/// The most bytes of a line of a product text, without its line feed.
+pub const LINE_LIMIT: u64 = 65_536;
+
+/// The most bytes of a product text.
+pub const TEXT_LIMIT: u64 = 1_048_576;
+
+/// Reads a product text to its end, and writes its answer at once.
+#[tactic(auto, using(crate::proofs::OutcomeLemmas::leaves_answer))]
+pub fn list<S: Source, K: Sink>(alloc: Global, source: &mut S, sink: &mut K) -> Status
+    ensures left { Leaves result
+        (record { rest = S.rest source.old; read_faults = S.read_faults source.old; written = K.written sink.old; write_faults = K.write_faults sink.old })
+        (record { rest = S.rest source.new; read_faults = S.read_faults source.new; written = K.written sink.new; write_faults = K.write_faults sink.new }) }
+    ensures exact { is_fault result ≡ false → IfSome (S.rest source.old) (λ text. result ≡ status_by_text text) }
+    ensures counted_reads { S.read_faults source.old ≤ S.read_faults source.new }
+    ensures counted_writes { K.write_faults sink.old ≤ K.write_faults sink.new }
+    ensures read_aside { S.read_aside source.new ≡ S.read_aside source.old }
+    ensures write_aside { K.write_aside sink.new ≡ K.write_aside sink.old }
+{
+    let text = match whole_text(alloc, source, LINE_LIMIT, TEXT_LIMIT) {
+        Ok(text) => text,
+        Err(LineFault::ReadFault) => return Status::ReadFault,
+        Err(LineFault::LineTooLong | LineFault::TotalTooLong) => return Status::TooLong,
+        Err(LineFault::NoMemory) => return Status::NoMemory,
+    };
+    match Reply::to_list(alloc, text.as_slice()) {
+        Ok(reply) => match put_all(sink, reply.text.as_slice()) {
+            Ok(()) => reply.status,
+            Err(_) => Status::WriteFault,
+        },
+        Err(NoMemory) => Status::NoMemory,
+    }
+}

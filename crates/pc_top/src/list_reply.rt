@@ -1,0 +1,106 @@
+//! The answer of `list`.
+
+ghost use Rattle.std.specs.Prelude.{◌≡◌, [], None, Some, IfOk};
+ghost use Rattle.pc_file.specs.Products.{products};
+
+use crate::status::Status;
+use pc_base::{NoMemory, Text};
+use pc_diagram::{Bounds, Choices, Word};
+use pc_file::{File, PlainFault, listing_over, plain_products, push_listing};
+use pc_text::{Kind, TextFault, crowded_line, read_file};
+use std::alloc::Global;
+
+/// A status and all bytes of the output.
+#[derive(Debug, Drop)]
+pub struct Reply {
+    pub status: Status,
+    pub text: Text,
+}
+
+impl Reply {
+    ghost use Rattle.pc_file.specs.Products.{words_of};
+    ghost use Rattle.std.specs.Prelude.{true};
+    ghost use Rattle.pc_text.specs.Crowded.{crowded_line, is_crowded};
+    ghost use Rattle.pc_text.specs.FirstFault.{first_fault, given_by};
+    ghost use Rattle.pc_top.specs.ListReply.{list_reply, listed, refused_no_product, refused_not_built, refused_text};
+    ghost use Rattle.pc_top.specs.Reply.{Is};
+
+    /// The answer to a product text: the listing of the file that it spells, without choices and bounds, and a line
+    /// `.`; or one line that says why there is none.
+    #[tactic(auto, unfolding(crate::specs::ListReply::list_reply, crate::specs::ListReply::file_reply))]
+    pub fn to_list(alloc: Global, text: &[u8]) -> Result<Reply, NoMemory>
+        ensures { IfOk result (λ reply. Is reply (list_reply text.now)) }
+    {
+        let file = match read_file(alloc, text) {
+            Ok(file) => file,
+            Err(TextFault::At { line, kind }) => return Reply::refused_text(alloc, line, kind),
+            Err(TextFault::NoMemory) => return Err(NoMemory),
+        };
+        match plain_products(alloc, &file) {
+            Ok(products) => Reply::listed(alloc, &file, products.as_slice()),
+            Err(PlainFault::TooMany) => Reply::not_built(alloc, text),
+            Err(PlainFault::NoMemory) => Err(NoMemory),
+        }
+    }
+
+    /// The line for a text with a fault.
+    fn refused_text(alloc: Global, line: u64, kind: Kind) -> Result<Reply, NoMemory>
+        ensures { IfOk result (λ reply. Is reply (refused_text line kind)) }
+    {
+        let mut text = Text::from_slice(alloc, b"refused text ")?;
+        text.push_unsigned(line)?;
+        text.push(b' ')?;
+        text.extend_from_slice(kind.word().as_bytes())?;
+        text.push(b'\n')?;
+        Ok(Reply {
+            status: Status::Refused,
+            text,
+        })
+    }
+
+    /// The line for a text whose file is too large to be listed.
+    fn not_built(alloc: Global, text: &[u8]) -> Result<Reply, NoMemory>
+        requires sound { first_fault text.now ≡ None }
+        requires crowded { is_crowded (given_by text.now) ≡ true }
+        ensures { IfOk result (λ reply. Is reply (refused_not_built (crowded_line text.now))) }
+    {
+        match crowded_line(alloc, text) {
+            Ok(Some(line)) => Reply::refused_not_built(alloc, line),
+            Ok(None) => unreachable!(),
+            Err(_) => Err(NoMemory),
+        }
+    }
+
+    fn refused_not_built(alloc: Global, line: u64) -> Result<Reply, NoMemory>
+        ensures { IfOk result (λ reply. Is reply (refused_not_built (Some line))) }
+    {
+        let mut text = Text::from_slice(alloc, b"refused not-built ")?;
+        text.push_unsigned(line)?;
+        text.push(b'\n')?;
+        Ok(Reply {
+            status: Status::Refused,
+            text,
+        })
+    }
+
+    /// The listing of a file with these products, or the line for one without any.
+    fn listed(alloc: Global, file: &File, words: &[Word]) -> Result<Reply, NoMemory>
+        requires { words.now ≡ products file.now }
+        ensures { IfOk result (λ reply. Is reply (listed file.now (products file.now))) }
+    {
+        if words.is_empty() {
+            return Ok(Reply {
+                status: Status::Refused,
+                text: Text::from_slice(alloc, b"refused no-product\n")?,
+            });
+        }
+        let listing = listing_over(alloc, file, words, &Choices::new(alloc), &Bounds::none())?;
+        let mut text = Text::new(alloc);
+        push_listing(&mut text, file.variables(), &listing)?;
+        text.extend_from_slice(b".\n")?;
+        Ok(Reply {
+            status: Status::Done,
+            text,
+        })
+    }
+}
