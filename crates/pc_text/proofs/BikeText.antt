@@ -1,5 +1,5 @@
 -- A text of the bike, and that it spells the bike.
-use Rattle.std.proofs.Common.{◌≡◌, ℕ, true, false, List, [], ◌∷◌, ◌++◌, Ok, length, refl, ap, ◌∙◌, arith}
+use Rattle.std.proofs.Common.{◌≡◌, ℕ, List, [], ◌∷◌, ◌++◌, refl, ◌∙◌, arith}
 use Rattle.std.specs.Prelude.{codes}
 use Rattle.std.specs.Fmt.{digits}
 use Rattle.std.specs.List.{AllZip}
@@ -11,10 +11,9 @@ use Rattle.pc_file.specs.declared.rule.Rule.{Rule, Rule-F, fold-Rule}
 use Rattle.pc_file.specs.declared.rule.Rule.TheVariants as rule
 use Rattle.pc_file.proofs.BikeLemmas.{bike_rules}
 use Rattle.pc_text.specs.declared.checks.AtMostFault.TheVariants.{Number, Length}
-use Rattle.pc_text.specs.declared.phrase.Phrase.{Phrase, Phrase-F, fold-Phrase}
+use Rattle.pc_text.specs.declared.phrase.Phrase.{Phrase-F, fold-Phrase}
 use Rattle.pc_text.specs.declared.phrase.Phrase.TheVariants.{Is, Not, And, Implies}
 use Rattle.pc_text.specs.declared.token.Sign.TheVariants.{Arrow, Equal, Open, Close}
-use Rattle.pc_text.specs.declared.token.Token.{Token}
 use Rattle.pc_text.specs.declared.token.Token.TheVariants.{Mark, Word}
 use Rattle.pc_text.specs.Given.{catalogue_of}
 use Rattle.pc_text.specs.Grammar as grammar
