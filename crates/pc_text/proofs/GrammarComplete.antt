@@ -311,8 +311,8 @@ and-read item (p ∷ []) texts rest two each end = absurd (omega arith)
 and-read item (p ∷ q ∷ ps) [] rest two each end = elim each [ ]
 and-read item (p ∷ q ∷ ps) (text ∷ texts) rest two (also first each) end =
     joined-all item p q ps (parted (Word (codes "and")) (text ∷ texts) ++ rest) rest
-    (several-reads item (eat_word (codes "and")) (Word (codes "and")) (Ends 3) (λ us. eat_word-takes (codes "and") us refl) (λ us. ends-high 3 (Word (codes "and") ∷ us) (omega arith)) p text (q ∷ ps) texts rest first each
-    (ends-high 3 rest (omega arith)) (eat_word-stops (codes "and") rest end))
+        (several-reads item (eat_word (codes "and")) (Word (codes "and")) (Ends 3) (λ us. eat_word-takes (codes "and") us refl) (λ us. ends-high 3 (Word (codes "and") ∷ us) (omega arith)) p text (q ∷ ps) texts rest first each
+            (ends-high 3 rest (omega arith)) (eat_word-stops (codes "and") rest end))
 
 or-read : (item : Reader Phrase) (ps : List Phrase) (texts : List (List Token)) (rest : List Token) → 2 ≤ length ps → EachRead item (eat_word (codes "or")) (Word (codes "or")) (Ends 2) ps texts → Ends 2 rest → sees_word (codes "or") rest ≡ false →
     joined chain.Or item (parted (Word (codes "or")) texts ++ rest) ≡ Ok (phrase.Or ps, rest)
@@ -321,7 +321,7 @@ or-read item (p ∷ []) texts rest two each ends end = absurd (omega arith)
 or-read item (p ∷ q ∷ ps) [] rest two each ends end = elim each [ ]
 or-read item (p ∷ q ∷ ps) (text ∷ texts) rest two (also first each) ends end =
     joined-any item p q ps (parted (Word (codes "or")) (text ∷ texts) ++ rest) rest
-    (several-reads item (eat_word (codes "or")) (Word (codes "or")) (Ends 2) (λ us. eat_word-takes (codes "or") us refl) ends-or p text (q ∷ ps) texts rest first each ends (eat_word-stops (codes "or") rest end))
+        (several-reads item (eat_word (codes "or")) (Word (codes "or")) (Ends 2) (λ us. eat_word-takes (codes "or") us refl) ends-or p text (q ∷ ps) texts rest first each ends (eat_word-stops (codes "or") rest end))
 
 members-read : (item : Reader Phrase) (ps : List Phrase) (texts : List (List Token)) (rest : List Token) → 1 ≤ length ps → EachRead item (eat Comma) (Mark Comma) (Ends 0) ps texts →
     listed item (parted (Mark Comma) texts ++ Mark Close ∷ rest) ≡ Ok (ps, Mark Close ∷ rest)
@@ -334,7 +334,6 @@ members-read item (p ∷ ps) (text ∷ texts) rest some (also first each) =
 module _ (limit : ℕ) where
   mutual
     unfolding rule_at member
-
     -- the text of a phrase in a place is read, whatever follows that doesn't go on
     complete : {place : ℕ} {p : Phrase} {text : List Token} → Spells place p text → (depth o c : ℕ) → depth + o ≡ c + limit → is_deep_after limit o c text ≡ false →
         (rest : List Token) → Ends place rest → reader_at (rule_at depth) place (text ++ rest) ≡ Ok (p, rest)
@@ -390,7 +389,7 @@ module _ (limit : ℕ) where
         let front : (members ++ Mark Close ∷ []) ++ rest ≡ members ++ Mark Close ∷ rest = append_assoc members (Mark Close ∷ []) rest in
         let after = Word k ∷ Mark Open ∷ ((members ++ Mark Close ∷ []) ++ rest) in
         let whole = atom-word (rule_at (suc depth)) (codes "atmost") after ∙ named-at_most (rule_at (suc depth)) after
-        ∙ at_most-reads (rule_at (suc depth)) k ps ((members ++ Mark Close ∷ []) ++ rest) rest (ap (listed (rule_at (suc depth))) front ∙ read) in
+            ∙ at_most-reads (rule_at (suc depth)) k ps ((members ++ Mark Close ∷ []) ++ rest) rest (ap (listed (rule_at (suc depth))) front ∙ read) in
         from_atom (rule_at (suc depth)) (phrase.AtMost k ps) (Word (codes "atmost") ∷ after) rest (omega arith) place whole ends
     complete (grammar.table place vs rows some free some_rows are fit) depth o c sum flat rest ends =
         let vtext = parted (Mark Comma) (map alone_word vs) in

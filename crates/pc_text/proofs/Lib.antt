@@ -1,3 +1,4 @@
+pub mod BikeText
 pub mod CountLemmas
 pub mod CrowdLemmas
 pub mod Depth

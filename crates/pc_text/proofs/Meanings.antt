@@ -15,6 +15,7 @@ use Rattle.pc_text.specs.LineWords.{words, first_word, after_word}
 use Rattle.pc_text.specs.Given.{catalogue_of, is_skipped, keyword_at, arguments_at}
 use Rattle.pc_text.specs.RuleText.{rule_of}
 use Rattle.pc_text.specs.Statement.{Statement, header, a_cost, a_variable, a_value, a_rule, end, Says, value_words}
+use Rattle.pc_text.proofs.RuleRead.{rule_of-read, rule_of-only}
 use Rattle.pc_text.proofs.LineWordLemmas.{Worded, bare, worded, cut_words, first_of_words}
 
 -- a keyword, words and what reading gives say a statement of a file of so many costs
@@ -98,7 +99,7 @@ module _ (file : Contents) (line : List ℕ) where
   says_means (a_cost name) says = let b = begins line _ _ says.0 in let a = about line Cost b.0 in (a.0, (a.1, b.1, says.1))
   says_means (a_variable name) says = let b = begins line _ _ says.0 in let a = about line Variable b.0 in (a.0, (a.1, b.1, says.1))
   says_means (a_value value) says = let b = begins line _ _ says.0 in let a = about line Value b.0 in (a.0, (a.1, b.1, says.1))
-  says_means (a_rule rule) says = let a = about line TheRule says.0 in (a.0, (a.1, says.1))
+  says_means (a_rule rule) says = let a = about line TheRule says.0 in (a.0, (a.1, rule_of-only (catalogue_of file.variables) (after_word line) rule says.1))
   says_means end says = let b = begins line _ _ says in let a = about line End b.0 in (a.0, (a.1, b.1))
 
   pub means_says : (statement : Statement) → is_skipped line ≡ false → MeansHere statement → Says file line statement
@@ -106,5 +107,5 @@ module _ (file : Contents) (line : List ℕ) where
   means_says (a_cost name) counts m = (worded_so line Cost _ counts m.0 m.1, m.2)
   means_says (a_variable name) counts m = (worded_so line Variable _ counts m.0 m.1, m.2)
   means_says (a_value value) counts m = (worded_so line Value _ counts m.0 m.1, m.2)
-  means_says (a_rule rule) counts m = (spelled (first_word line) TheRule m.0, m.1)
+  means_says (a_rule rule) counts m = (spelled (first_word line) TheRule m.0, rule_of-read (catalogue_of file.variables) (after_word line) rule m.1)
   means_says end counts m = worded_so line End _ counts m.0 m.1

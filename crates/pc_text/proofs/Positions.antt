@@ -101,10 +101,9 @@ module _ (names : Catalogue) (variables : List Variable) (holds : HoldsNames nam
       let a = bind_ok (value_at names v word) (λ y. rest >>= λ more. Ok (y ∷ more)) these e in
       let b = bind_ok rest (λ more. Ok (a.0 ∷ more)) these a.2 in
       let others = are_values vs words b.0 (omega arith) b.1 in
-      let is = the_ok (a.0 ∷ b.0) these b.2 in (
-        ap length (sym is) ∙ ap suc others.0,
-        ap (λ l. list_all (λ p. has_value variables p.0 p.1) (zip (v ∷ vs) l)) (sym is) ∙ and_from (has_value variables v a.0) (list_all (λ p. has_value variables p.0 p.1) (zip vs b.0)) (value_at-has v word a.0 a.1) others.1,
-      )
+      let is = the_ok (a.0 ∷ b.0) these b.2 in
+      (ap length (sym is) ∙ ap suc others.0,
+      ap (λ l. list_all (λ p. has_value variables p.0 p.1) (zip (v ∷ vs) l)) (sym is) ∙ and_from (has_value variables v a.0) (list_all (λ p. has_value variables p.0 p.1) (zip vs b.0)) (value_at-has v word a.0 a.1) others.1)
 
   pub row_at-is : (vs : List ℕ) (words : List (List ℕ)) (these : List ℕ) → length words ≡ length vs → row_at names vs words ≡ Ok these → is_row variables vs these ≡ true
   unfolding row_at

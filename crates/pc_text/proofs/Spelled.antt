@@ -38,6 +38,7 @@ module _ (names : Catalogue) (variables : List Variable) (holds : HoldsNames nam
   abbrev outcome : Type 0
   outcome = Outcome Rule
 
+
   spelled-Is : (v a : List ℕ) (r : Rule) → rule_named names (phrase.Is v a) ≡ Ok r → is_spelled variables r ≡ true
   spelled-Is v a r e =
       let s = bind_ok (variable_at names v) (λ variable. value_at names variable a >>= λ value. Ok (rule.Is variable value)) r (sym (of_phrase.fold-Is outcome (named_step names) v a) ∙ e) in
@@ -137,7 +138,7 @@ module _ (names : Catalogue) (variables : List Variable) (holds : HoldsNames nam
         let within : length b.0 ≤ 64 = omega (arith, all.1) in
         ap (is_spelled variables) (sym is) ∙ is_spelled-AtMost variables count b.0
         ∙ and_from (nat_le count 64 && nat_le 1 (length b.0) && nat_le (length b.0) 64) (list_all (is_spelled variables) b.0)
-        (and_from (nat_le count 64 && nat_le 1 (length b.0)) (nat_le (length b.0) 64) (and_from (nat_le count 64) (nat_le 1 (length b.0)) (le-leb count 64 little) (le-leb 1 (length b.0) many)) (le-leb (length b.0) 64 within)) all.0
+            (and_from (nat_le count 64 && nat_le 1 (length b.0)) (nat_le (length b.0) 64) (and_from (nat_le count 64) (nat_le 1 (length b.0)) (le-leb count 64 little) (le-leb 1 (length b.0) many)) (le-leb (length b.0) 64 within)) all.0
 
     pub each_spelled : {place : ℕ} {ps : List Phrase} {texts : List (List Token)} → SpellsEach place ps texts → (rs : List Rule) → all_ok (map (rule_named names) ps) ≡ Ok rs →
         list_any (has_fault Number) ps ≡ false → list_any (has_fault Length) ps ≡ false → list_any has_repeat rs ≡ false → (list_all (is_spelled variables) rs ≡ true) × (length rs ≡ length ps)

@@ -31,8 +31,8 @@ pub record Spells (text : List ℕ) (file : Contents) : Type 0 where
   pub is_file : IsFile file
   pub says : AllZip (Says file) (significant_lines text) (statements file)
 
--- what is answered is this, unless memory is wanted
-abbrev pub Gives : {X : Type 0} → X → Result X TextFault → Type 0
-Gives x (Ok answer) = answer ≡ x
-Gives x (Err (At line kind)) = ⊥
-Gives x (Err NoMemory) = Unit {0}
+-- the answer is this file, unless memory is wanted
+abbrev pub GivesFile : Contents → Result Contents TextFault → Type 0
+GivesFile file (Ok answer) = answer ≡ file
+GivesFile file (Err (At line kind)) = ⊥
+GivesFile file (Err NoMemory) = Unit {0}

@@ -1,5 +1,5 @@
 -- The statements of a file, and the lines that say them.
-use Rattle.std.specs.Prelude.{◌≡◌, ℕ, true, List, [], ◌∷◌, ◌++◌, length, map, take, codes, Ok}
+use Rattle.std.specs.Prelude.{◌≡◌, ℕ, true, List, [], ◌∷◌, ◌++◌, length, map, take, codes}
 use Rattle.std.specs.Fmt.{signed_decimal}
 use Rattle.std.specs.List.{flat_map}
 use Rattle.pc_names.specs.Name.{is_name}
@@ -9,7 +9,7 @@ use Rattle.pc_file.specs.declared.variable.Variable.{Variable}
 use Rattle.pc_file.specs.Limits.{Contents}
 use Rattle.pc_text.specs.LineWords.{words, first_word, after_word}
 use Rattle.pc_text.specs.Given.{catalogue_of}
-use Rattle.pc_text.specs.RuleText.{rule_of}
+use Rattle.pc_text.specs.RuleText.{IsRuleText}
 
 -- a statement: the header, the name of a cost or of a variable, a value of the variable named last, a rule, or the end
 pub data Statement : Type 0 where
@@ -32,11 +32,11 @@ statements file = header ∷ map a_cost file.costs ++ (flat_map variable_stateme
 abbrev pub value_words : ℕ → Value → List (List ℕ)
 value_words costs value = value.name ∷ take costs (signed_decimal value.first ∷ signed_decimal value.second ∷ [])
 
--- A line says a statement of a file, by its words; a rule's are those after the first, over the names of the file.
+-- A line says a statement of a file, by its words; a rule is what the bytes after the word `rule` spell, over the names of the file.
 abbrev pub Says : Contents → List ℕ → Statement → Type 0
 Says file line header = words line ≡ codes "product" ∷ codes "1" ∷ []
 Says file line (a_cost name) = (words line ≡ codes "cost" ∷ name ∷ []) × (is_name name ≡ true)
 Says file line (a_variable name) = (words line ≡ codes "variable" ∷ name ∷ []) × (is_name name ≡ true)
 Says file line (a_value value) = (words line ≡ codes "value" ∷ value_words (length file.costs) value) × (is_name value.name ≡ true)
-Says file line (a_rule rule) = (first_word line ≡ codes "rule") × (rule_of (catalogue_of file.variables) (after_word line) ≡ Ok rule)
+Says file line (a_rule rule) = (first_word line ≡ codes "rule") × IsRuleText (catalogue_of file.variables) (after_word line) rule
 Says file line end = words line ≡ codes "end" ∷ []

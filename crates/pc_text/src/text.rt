@@ -5,7 +5,7 @@ ghost use Rattle.pc_file.specs.Limits.{Contents};
 ghost use Rattle.pc_text.specs.Crowded.{crowded_line, is_crowded};
 ghost use Rattle.pc_text.specs.FirstFault.{first_fault, given_by};
 ghost use Rattle.pc_text.specs.Given.{contents_given};
-ghost use Rattle.pc_text.specs.Spells.{Gives, Spells};
+ghost use Rattle.pc_text.specs.Spells.{GivesFile, Spells};
 ghost use Rattle.pc_text.specs.Told.{ReadsText};
 
 use crate::reading::read_statements;
@@ -17,7 +17,7 @@ use std::alloc::Global;
 pub fn read_file(alloc: Global, text: &[u8]) -> Result<File, TextFault>
     ensures exact { ReadsText (λ file. file ≡ contents_given (given_by text.now)) result (first_fault text.now) }
     ensures found { IfOk result (Spells text.now) }
-    ensures only { (file : Contents) → Spells text.now file → Gives file result }
+    ensures only { (file : Contents) → Spells text.now file → GivesFile file result }
 {
     match read_statements(alloc, text) {
         Ok(statements) => match statements.reader.into_file(alloc) {

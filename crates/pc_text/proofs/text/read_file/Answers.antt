@@ -1,6 +1,7 @@
 -- What is answered is the file that the text spells, and that keeps all limits.
 use Rattle.std.proofs.Common.{◌≡◌, Err, ap, sym, subst}
 use Rattle.pc_file.specs.Limits.{IsFile}
+use Rattle.pc_text.specs.declared.reading.Statements.{Statements}
 use Rattle.pc_text.specs.Crowded.{crowded_line}
 use Rattle.pc_text.specs.FirstFault.{given_by}
 use Rattle.pc_text.specs.declared.reading.Statements.{Statements}
