@@ -33,3 +33,5 @@ pub use text_fault::TextFault;
 
 #[cfg(test)]
 mod tests;
+#[cfg(test)]
+mod text_tests;
