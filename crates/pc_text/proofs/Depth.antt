@@ -1,9 +1,8 @@
 -- Parentheses that are open in a text.
-use Rattle.std.proofs.Common.{◌≡◌, ℕ, zero, suc, ◌+◌, ◌≤◌, ◌<◌, nat_lt, Bool, true, false, ◌||◌, List, [], ◌∷◌, ◌++◌, length, codes, map, refl, sym, ap, ◌∙◌, add_assoc, arith, append_assoc}
-use Rattle.std.proofs.lemmas.Bool.{or_parts, or_from, ltb-false, le-ltb}
+use Rattle.std.proofs.Common.{◌≡◌, ℕ, ◌+◌, nat_lt, Bool, true, false, ◌||◌, List, [], ◌∷◌, ◌++◌, codes, map, refl, ap, ◌∙◌, arith}
 use Rattle.std.proofs.lemmas.Bool.Decides.{nat_tests}
 use Rattle.pc_text.specs.declared.phrase.Phrase.{Phrase}
-use Rattle.pc_text.specs.declared.token.Sign.TheVariants.{Arrow, NotEqual, Equal, Open, Close, OpenBrace, CloseBrace, Comma}
+use Rattle.pc_text.specs.declared.token.Sign.TheVariants.{Arrow, Close, OpenBrace, CloseBrace, Comma}
 use Rattle.pc_text.specs.declared.token.Token.{Token}
 use Rattle.pc_text.specs.declared.token.Token.TheVariants.{Mark, Word}
 use Rattle.pc_text.specs.Token.{one_if_open, one_if_closed, is_deep_after}

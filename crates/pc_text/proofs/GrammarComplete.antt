@@ -1,6 +1,6 @@
 -- What is in the grammar is read.
-use Rattle.std.proofs.Common.{◌≡◌, ℕ, zero, suc, ◌+◌, ◌≤◌, ◌<◌, Bool, true, false, cond, ◌||◌, List, [], ◌∷◌, ◌++◌, length, codes, map, Ok, Err, refl, sym, ap, subst, ◌∙◌, append_assoc, length-append, arith}
-use Rattle.std.proofs.lemmas.Bool.{or_parts}
+use Rattle.std.proofs.Common.{◌≡◌, ℕ, zero, suc, ◌+◌, ◌≤◌, nat_lt, Bool, true, false, cond, List, [], ◌∷◌, ◌++◌, length, codes, map, Ok, refl, sym, ap, ◌∙◌, append_assoc, length-append, arith}
+use Rattle.std.proofs.lemmas.Bool.{or_parts, or_from, le-ltb}
 use Rattle.std.proofs.lemmas.List.{append-nil}
 use Rattle.pc_file.specs.Limits.{is_reserved}
 use Rattle.pc_file.specs.Spelling.{same_spelling}
@@ -13,11 +13,11 @@ use Rattle.pc_text.specs.declared.token.Token.TheVariants.{Mark, Word}
 use Rattle.pc_text.specs.Outcome.{Outcome}
 use Rattle.pc_text.specs.Token.{one_if_open, one_if_closed, is_deep_after, is_too_deep}
 use Rattle.pc_text.specs.Words.{Reader, and_then, ◌>>=◌, ◌>>◌, pure, refused, same_sign, sees, sees_word, past, eat, eat_word, expect, word, variable, several_from, several, listed, row}
-use Rattle.pc_text.specs.Reading.{one_of, comparison, same, are_as_long, table, chained, joined, parenthesized, at_most, named, atom, negation, member, implication, rule_at, alone, only, phrase_of}
+use Rattle.pc_text.specs.Reading.{one_of, comparison, same, are_as_long, table, chained, joined, parenthesized, at_most, named, atom, negation, member, implication, rule_at, only, phrase_of}
 use Rattle.pc_text.specs.Grammar.{parted, alone_word, IsFree, AreFree, AreRows, Spells, SpellsEach}
 use Rattle.pc_text.specs.Grammar as grammar
-use Rattle.pc_text.proofs.Readers.{same_word-true}
-use Rattle.pc_text.proofs.Spellers.{Reads, EachRead, nothing, also, several-reads, words-read, variables-read, rows-read}
+use Rattle.pc_text.proofs.Readers.{the_pair, same_word-true}
+use Rattle.pc_text.proofs.Spellers.{EachRead, nothing, also, several-reads, words-read, variables-read, rows-read}
 use Rattle.pc_text.proofs.Depth.{balanced}
 use Rattle.pc_text.proofs.Shallow.{parts, first_part, past_token, opened, split}
 
@@ -311,8 +311,8 @@ and-read item (p ∷ []) texts rest two each end = absurd (omega arith)
 and-read item (p ∷ q ∷ ps) [] rest two each end = elim each [ ]
 and-read item (p ∷ q ∷ ps) (text ∷ texts) rest two (also first each) end =
     joined-all item p q ps (parted (Word (codes "and")) (text ∷ texts) ++ rest) rest
-        (several-reads item (eat_word (codes "and")) (Word (codes "and")) (Ends 3) (λ us. eat_word-takes (codes "and") us refl) (λ us. ends-high 3 (Word (codes "and") ∷ us) (omega arith)) p text (q ∷ ps) texts rest first each
-            (ends-high 3 rest (omega arith)) (eat_word-stops (codes "and") rest end))
+    (several-reads item (eat_word (codes "and")) (Word (codes "and")) (Ends 3) (λ us. eat_word-takes (codes "and") us refl) (λ us. ends-high 3 (Word (codes "and") ∷ us) (omega arith)) p text (q ∷ ps) texts rest first each
+    (ends-high 3 rest (omega arith)) (eat_word-stops (codes "and") rest end))
 
 or-read : (item : Reader Phrase) (ps : List Phrase) (texts : List (List Token)) (rest : List Token) → 2 ≤ length ps → EachRead item (eat_word (codes "or")) (Word (codes "or")) (Ends 2) ps texts → Ends 2 rest → sees_word (codes "or") rest ≡ false →
     joined chain.Or item (parted (Word (codes "or")) texts ++ rest) ≡ Ok (phrase.Or ps, rest)
@@ -321,7 +321,7 @@ or-read item (p ∷ []) texts rest two each ends end = absurd (omega arith)
 or-read item (p ∷ q ∷ ps) [] rest two each ends end = elim each [ ]
 or-read item (p ∷ q ∷ ps) (text ∷ texts) rest two (also first each) ends end =
     joined-any item p q ps (parted (Word (codes "or")) (text ∷ texts) ++ rest) rest
-        (several-reads item (eat_word (codes "or")) (Word (codes "or")) (Ends 2) (λ us. eat_word-takes (codes "or") us refl) ends-or p text (q ∷ ps) texts rest first each ends (eat_word-stops (codes "or") rest end))
+    (several-reads item (eat_word (codes "or")) (Word (codes "or")) (Ends 2) (λ us. eat_word-takes (codes "or") us refl) ends-or p text (q ∷ ps) texts rest first each ends (eat_word-stops (codes "or") rest end))
 
 members-read : (item : Reader Phrase) (ps : List Phrase) (texts : List (List Token)) (rest : List Token) → 1 ≤ length ps → EachRead item (eat Comma) (Mark Comma) (Ends 0) ps texts →
     listed item (parted (Mark Comma) texts ++ Mark Close ∷ rest) ≡ Ok (ps, Mark Close ∷ rest)
@@ -334,6 +334,7 @@ members-read item (p ∷ ps) (text ∷ texts) rest some (also first each) =
 module _ (limit : ℕ) where
   mutual
     unfolding rule_at member
+
     -- the text of a phrase in a place is read, whatever follows that doesn't go on
     complete : {place : ℕ} {p : Phrase} {text : List Token} → Spells place p text → (depth o c : ℕ) → depth + o ≡ c + limit → is_deep_after limit o c text ≡ false →
         (rest : List Token) → Ends place rest → reader_at (rule_at depth) place (text ++ rest) ≡ Ok (p, rest)
@@ -389,7 +390,7 @@ module _ (limit : ℕ) where
         let front : (members ++ Mark Close ∷ []) ++ rest ≡ members ++ Mark Close ∷ rest = append_assoc members (Mark Close ∷ []) rest in
         let after = Word k ∷ Mark Open ∷ ((members ++ Mark Close ∷ []) ++ rest) in
         let whole = atom-word (rule_at (suc depth)) (codes "atmost") after ∙ named-at_most (rule_at (suc depth)) after
-            ∙ at_most-reads (rule_at (suc depth)) k ps ((members ++ Mark Close ∷ []) ++ rest) rest (ap (listed (rule_at (suc depth))) front ∙ read) in
+        ∙ at_most-reads (rule_at (suc depth)) k ps ((members ++ Mark Close ∷ []) ++ rest) rest (ap (listed (rule_at (suc depth))) front ∙ read) in
         from_atom (rule_at (suc depth)) (phrase.AtMost k ps) (Word (codes "atmost") ∷ after) rest (omega arith) place whole ends
     complete (grammar.table place vs rows some free some_rows are fit) depth o c sum flat rest ends =
         let vtext = parted (Mark Comma) (map alone_word vs) in
@@ -415,3 +416,25 @@ pub phrase_of-complete : (tokens : List Token) (p : Phrase) → is_too_deep toke
 unfolding phrase_of is_too_deep rule_at
 phrase_of-complete tokens p flat s =
     only-all (rule_at 65 tokens) p (ap (rule_at 65) (sym (append-nil tokens)) ∙ complete 64 s 64 0 0 refl flat [] ends-nothing)
+
+-- ---- no two phrases have one spelling
+
+open_small : (token : Token) → one_if_open token ≤ 1
+open_small (Mark Open) = omega arith
+open_small _ = omega arith
+
+flat_enough : (limit : ℕ) (ts : List Token) (o c : ℕ) → o + length ts ≤ c + limit → is_deep_after limit o c ts ≡ false
+flat_enough limit [] o c room = refl
+flat_enough limit (t ∷ ts) o c room =
+    let one = open_small t in
+    or_from (nat_lt (c + one_if_closed t + limit) (o + one_if_open t)) (is_deep_after limit (o + one_if_open t) (c + one_if_closed t) ts)
+    (le-ltb (c + one_if_closed t + limit) (o + one_if_open t) (omega (arith, one, room)))
+    (flat_enough limit ts (o + one_if_open t) (c + one_if_closed t) (omega (arith, one, room)))
+
+pub one_spelling : (tokens : List Token) (p q : Phrase) → Spells 0 p tokens → Spells 0 q tokens → p ≡ q
+one_spelling tokens p q s t =
+    let limit = length tokens in
+    let flat = flat_enough limit tokens 0 0 (omega arith) in
+    let first = complete limit s limit 0 0 (omega arith) flat [] ends-nothing in
+    let second = complete limit t limit 0 0 (omega arith) flat [] ends-nothing in
+    (the_pair p q [] [] (sym first ∙ second)).0

@@ -3,7 +3,6 @@ use Rattle.std.proofs.Common.{◌≡◌, ℕ, zero, suc, ◌≤◌, Bool, true, 
 use Rattle.std.proofs.lemmas.List.{append-nil}
 use Rattle.pc_file.specs.Limits.{is_reserved}
 use Rattle.pc_file.specs.Spelling.{same_spelling}
-use Rattle.pc_text.specs.declared.phrase.Chain.{Chain}
 use Rattle.pc_text.specs.declared.phrase.Chain.TheVariants as chain
 use Rattle.pc_text.specs.declared.phrase.Phrase.{Phrase}
 use Rattle.pc_text.specs.declared.phrase.Phrase.TheVariants as phrase
@@ -12,10 +11,10 @@ use Rattle.pc_text.specs.declared.token.Token.{Token}
 use Rattle.pc_text.specs.declared.token.Token.TheVariants.{Mark, Word}
 use Rattle.pc_text.specs.Outcome.{Outcome}
 use Rattle.pc_text.specs.Words.{Reader, ◌>>=◌, ◌>>◌, pure, refused, eat, eat_word, expect, word, variable, several, listed, row}
-use Rattle.pc_text.specs.Reading.{one_of, comparison, same, are_as_long, table, chained, joint, joined, parenthesized, at_most, named, atom, negation, member, implication, rule_at, alone, only, phrase_of}
+use Rattle.pc_text.specs.Reading.{one_of, comparison, same, are_as_long, table, chained, joined, parenthesized, at_most, named, atom, negation, member, implication, rule_at, only, phrase_of}
 use Rattle.pc_text.specs.Grammar.{parted, alone_word, IsFree, AreFree, AreRows, Spells, SpellsEach}
 use Rattle.pc_text.specs.Grammar as grammar
-use Rattle.pc_text.proofs.Readers.{the_value, the_pair, then_ok, branch_ok, never, same_word-true, eat_or, eat_word_or, after_expected, with_word, with_variable, eat_word-took, eat_word-left, EachBy, empty, with_first, Listed, listed-took, several-took, words-took, variables-took, rows-took}
+use Rattle.pc_text.proofs.Readers.{the_value, the_pair, then_ok, branch_ok, never, same_word-true, eat_or, eat_word_or, after_expected, with_word, with_variable, eat_word-took, eat_word-left, EachBy, empty, with_first, listed-took, several-took, words-took, variables-took, rows-took}
 
 -- the tokens up to the rest spell the phrase in such a place
 abbrev pub Front : ℕ → List Token → Phrase → List Token → Type 0
@@ -47,10 +46,11 @@ one_of-took name free ts p rest e = by (eat_word_or (codes "in") (one_of-inside 
         let took = words-took list.0 opened.0 list.1 list.2 in
         let close = after_expected CloseBrace (pure (phrase.OneOf name list.0)) list.1 p rest list.3 in
         let values = parted (Mark Comma) (map alone_word list.0) in
-        again 4 (Word name ∷ ts) (phrase.OneOf name list.0) p close.0 rest close.2
-            (Word name ∷ Word (codes "in") ∷ Mark OpenBrace ∷ values ++ Mark CloseBrace ∷ [],
-            ap (λ r. Word name ∷ r) (s.1 ∙ ap (λ r. Word (codes "in") ∷ r) (opened.1 ∙ ap (λ r. Mark OpenBrace ∷ r) (took.0 ∙ ap (λ r. values ++ r) close.1 ∙ sym (append_assoc values (Mark CloseBrace ∷ []) close.0)))),
-            grammar.one_of 4 name list.0 free took.1)
+        again 4 (Word name ∷ ts) (phrase.OneOf name list.0) p close.0 rest close.2 (
+          Word name ∷ Word (codes "in") ∷ Mark OpenBrace ∷ values ++ Mark CloseBrace ∷ [],
+          ap (λ r. Word name ∷ r) (s.1 ∙ ap (λ r. Word (codes "in") ∷ r) (opened.1 ∙ ap (λ r. Mark OpenBrace ∷ r) (took.0 ∙ ap (λ r. values ++ r) close.1 ∙ sym (append_assoc values (Mark CloseBrace ∷ []) close.0)))),
+          grammar.one_of 4 name list.0 free took.1,
+        )
 
 abbrev is-end : List ℕ → Reader Phrase
 is-end name = word >>= λ value. pure (phrase.Is name value)
@@ -66,13 +66,14 @@ comparison-took name free ts p rest e = by (eat_or Equal (is-end name) (eat NotE
     other (inl s) =
         let w = with_word (λ value. pure (phrase.IsNot name value)) s.0 p rest s.2 in
         again 4 (Word name ∷ ts) (phrase.IsNot name w.0) p w.1 rest w.3
-            (Word name ∷ Mark NotEqual ∷ Word w.0 ∷ [], ap (λ r. Word name ∷ r) (s.1 ∙ ap (λ r. Mark NotEqual ∷ r) w.2), grammar.is_not 4 name w.0 free)
+        (Word name ∷ Mark NotEqual ∷ Word w.0 ∷ [], ap (λ r. Word name ∷ r) (s.1 ∙ ap (λ r. Mark NotEqual ∷ r) w.2), grammar.is_not 4 name w.0 free)
     other (inr e) = one_of-took name free ts p rest e
+
     by : ((left : List Token) × (ts ≡ Mark Equal ∷ left) × (is-end name left ≡ Ok (p, rest))) ⊎ ((eat NotEqual >>= λ found. cond found (is_not-end name) (one_of name)) ts ≡ Ok (p, rest)) → Front 4 (Word name ∷ ts) p rest
     by (inl s) =
         let w = with_word (λ value. pure (phrase.Is name value)) s.0 p rest s.2 in
         again 4 (Word name ∷ ts) (phrase.Is name w.0) p w.1 rest w.3
-            (Word name ∷ Mark Equal ∷ Word w.0 ∷ [], ap (λ r. Word name ∷ r) (s.1 ∙ ap (λ r. Mark Equal ∷ r) w.2), grammar.is 4 name w.0 free)
+        (Word name ∷ Mark Equal ∷ Word w.0 ∷ [], ap (λ r. Word name ∷ r) (s.1 ∙ ap (λ r. Mark Equal ∷ r) w.2), grammar.is 4 name w.0 free)
     by (inr e) = other (eat_or NotEqual (is_not-end name) (one_of name) ts p rest e)
 
 -- ---- `same` and `table`
@@ -91,10 +92,11 @@ same-took ts p rest e =
     let comma = after_expected Comma (variable >>= same-end v.0) v.1 p rest v.4 in
     let w = with_variable (same-end v.0) comma.0 p rest comma.2 in
     let close = after_expected Close (pure (phrase.Same v.0 w.0)) w.1 p rest w.4 in
-    again 4 (Word (codes "same") ∷ ts) (phrase.Same v.0 w.0) p close.0 rest close.2
-        (Word (codes "same") ∷ Mark Open ∷ Word v.0 ∷ Mark Comma ∷ Word w.0 ∷ Mark Close ∷ [],
-        ap (λ r. Word (codes "same") ∷ r) (opened.1 ∙ ap (λ r. Mark Open ∷ r) (v.2 ∙ ap (λ r. Word v.0 ∷ r) (comma.1 ∙ ap (λ r. Mark Comma ∷ r) (w.2 ∙ ap (λ r. Word w.0 ∷ r) close.1)))),
-        grammar.same 4 v.0 w.0 v.3 w.3)
+    again 4 (Word (codes "same") ∷ ts) (phrase.Same v.0 w.0) p close.0 rest close.2 (
+      Word (codes "same") ∷ Mark Open ∷ Word v.0 ∷ Mark Comma ∷ Word w.0 ∷ Mark Close ∷ [],
+      ap (λ r. Word (codes "same") ∷ r) (opened.1 ∙ ap (λ r. Mark Open ∷ r) (v.2 ∙ ap (λ r. Word v.0 ∷ r) (comma.1 ∙ ap (λ r. Mark Comma ∷ r) (w.2 ∙ ap (λ r. Word w.0 ∷ r) close.1)))),
+      grammar.same 4 v.0 w.0 v.3 w.3,
+    )
 
 abbrev table-end : List (List ℕ) → List (List (List ℕ)) → Reader Phrase
 table-end variables rows = expect CloseBrace >> cond (are_as_long variables rows) (pure (phrase.Table variables rows)) refused
@@ -125,16 +127,17 @@ table-took ts p rest e =
     let end = after_expected CloseBrace (cond (are_as_long vs.0 rs.0) (pure (phrase.Table vs.0 rs.0)) refused) rs.1 p rest rs.3 in
     let whole = table-text (parted (Mark Comma) (map alone_word vs.0)) (parted (Mark Comma) (map (map Word) rs.0)) ts opened.0 vs.1 close.0 brace.0 rs.1 end.0 opened.1 variables.0 close.1 brace.1 rows.0 end.1 in
     by vs.0 rs.0 end.0 variables.1 variables.2 rows.1 rows.2 whole (are_as_long vs.0 rs.0) refl end.2
-    where
-      by : (vs : List (List ℕ)) (rs : List (List (List ℕ))) (left : List Token) → 1 ≤ length vs → AreFree vs → 1 ≤ length rs → AreRows rs →
-          ts ≡ (Mark Open ∷ parted (Mark Comma) (map alone_word vs) ++ Mark Close ∷ Mark OpenBrace ∷ parted (Mark Comma) (map (map Word) rs) ++ Mark CloseBrace ∷ []) ++ left →
-          (b : Bool) → are_as_long vs rs ≡ b → (cond b (pure (phrase.Table vs rs)) refused) left ≡ Ok (p, rest) → Front 4 (Word (codes "table") ∷ ts) p rest
-      by vs rs left some_vs free some_rs rows whole false fit e = never left p rest e
-      by vs rs left some_vs free some_rs rows whole true fit e =
-          again 4 (Word (codes "table") ∷ ts) (phrase.Table vs rs) p left rest e
-              (Word (codes "table") ∷ Mark Open ∷ parted (Mark Comma) (map alone_word vs) ++ Mark Close ∷ Mark OpenBrace ∷ parted (Mark Comma) (map (map Word) rs) ++ Mark CloseBrace ∷ [],
-              ap (λ r. Word (codes "table") ∷ r) whole,
-              grammar.table 4 vs rs some_vs free some_rs rows fit)
+  where
+    by : (vs : List (List ℕ)) (rs : List (List (List ℕ))) (left : List Token) → 1 ≤ length vs → AreFree vs → 1 ≤ length rs → AreRows rs →
+        ts ≡ (Mark Open ∷ parted (Mark Comma) (map alone_word vs) ++ Mark Close ∷ Mark OpenBrace ∷ parted (Mark Comma) (map (map Word) rs) ++ Mark CloseBrace ∷ []) ++ left →
+        (b : Bool) → are_as_long vs rs ≡ b → (cond b (pure (phrase.Table vs rs)) refused) left ≡ Ok (p, rest) → Front 4 (Word (codes "table") ∷ ts) p rest
+    by vs rs left some_vs free some_rs rows whole false fit e = never left p rest e
+    by vs rs left some_vs free some_rs rows whole true fit e =
+        again 4 (Word (codes "table") ∷ ts) (phrase.Table vs rs) p left rest e (
+          Word (codes "table") ∷ Mark Open ∷ parted (Mark Comma) (map alone_word vs) ++ Mark Close ∷ Mark OpenBrace ∷ parted (Mark Comma) (map (map Word) rs) ++ Mark CloseBrace ∷ [],
+          ap (λ r. Word (codes "table") ∷ r) whole,
+          grammar.table 4 vs rs some_vs free some_rs rows fit,
+        )
 
 -- ---- forms with rules inside
 
@@ -185,7 +188,7 @@ and-took item item-took ts p rest e =
     let s = then_ok (several item (eat_word (codes "and")) ts) (λ members. pure (chained chain.And members)) p rest e in
     let l = several-took (Spells 3) item (eat_word (codes "and")) (Word (codes "and")) (λ us q r h. item-took us q r h) (eat_word-took (codes "and")) (eat_word-left (codes "and")) s.0 ts s.1 s.2 in
     again 2 ts (chained chain.And s.0) p s.1 rest s.3
-        (parted (Word (codes "and")) (l.text ∷ l.texts), l.took, subst (λ all. Spells 2 (chained chain.And all) (parted (Word (codes "and")) (l.text ∷ l.texts))) (sym l.is) (conjunction_of l.first l.others l.text l.texts l.told l.each))
+    (parted (Word (codes "and")) (l.text ∷ l.texts), l.took, subst (λ all. Spells 2 (chained chain.And all) (parted (Word (codes "and")) (l.text ∷ l.texts))) (sym l.is) (conjunction_of l.first l.others l.text l.texts l.told l.each))
 
 or-took : (item : Reader Phrase) → Took 2 item → Took 1 (joined chain.Or item)
 unfolding joined
@@ -193,7 +196,7 @@ or-took item item-took ts p rest e =
     let s = then_ok (several item (eat_word (codes "or")) ts) (λ members. pure (chained chain.Or members)) p rest e in
     let l = several-took (Spells 2) item (eat_word (codes "or")) (Word (codes "or")) (λ us q r h. item-took us q r h) (eat_word-took (codes "or")) (eat_word-left (codes "or")) s.0 ts s.1 s.2 in
     again 1 ts (chained chain.Or s.0) p s.1 rest s.3
-        (parted (Word (codes "or")) (l.text ∷ l.texts), l.took, subst (λ all. Spells 1 (chained chain.Or all) (parted (Word (codes "or")) (l.text ∷ l.texts))) (sym l.is) (disjunction_of l.first l.others l.text l.texts l.told l.each))
+    (parted (Word (codes "or")) (l.text ∷ l.texts), l.took, subst (λ all. Spells 1 (chained chain.Or all) (parted (Word (codes "or")) (l.text ∷ l.texts))) (sym l.is) (disjunction_of l.first l.others l.text l.texts l.told l.each))
 
 module _ (rule : Reader Phrase) (rule-took : Took 0 rule) where
   parenthesized-took : (ts : List Token) (p : Phrase) (rest : List Token) → parenthesized rule ts ≡ Ok (p, rest) → Front 4 (Mark Open ∷ ts) p rest
@@ -203,7 +206,7 @@ module _ (rule : Reader Phrase) (rule-took : Took 0 rule) where
       let inner = rule-took ts s.0 s.1 s.2 in
       let close = after_expected Close (pure s.0) s.1 p rest s.3 in
       again 4 (Mark Open ∷ ts) s.0 p close.0 rest close.2
-          (Mark Open ∷ inner.0 ++ Mark Close ∷ [], ap (λ r. Mark Open ∷ r) (inner.1 ∙ ap (λ r. inner.0 ++ r) close.1 ∙ sym (append_assoc inner.0 (Mark Close ∷ []) close.0)), grammar.parentheses 4 inner.2)
+      (Mark Open ∷ inner.0 ++ Mark Close ∷ [], ap (λ r. Mark Open ∷ r) (inner.1 ∙ ap (λ r. inner.0 ++ r) close.1 ∙ sym (append_assoc inner.0 (Mark Close ∷ []) close.0)), grammar.parentheses 4 inner.2)
 
   abbrev at_most-end : List ℕ → List Phrase → Reader Phrase
   at_most-end most members = expect Close >> pure (phrase.AtMost most members)
@@ -221,10 +224,11 @@ module _ (rule : Reader Phrase) (rule-took : Took 0 rule) where
       let close = after_expected Close (pure (phrase.AtMost w.0 ms.0)) ms.1 p rest ms.3 in
       let members = parted (Mark Comma) (l.text ∷ l.texts) in
       let some : 1 ≤ length ms.0 = omega (arith, ap (length {A = Phrase}) l.is) in
-      again 4 (Word (codes "atmost") ∷ ts) (phrase.AtMost w.0 ms.0) p close.0 rest close.2
-          (Word (codes "atmost") ∷ Word w.0 ∷ Mark Open ∷ members ++ Mark Close ∷ [],
-          ap (λ r. Word (codes "atmost") ∷ r) (w.2 ∙ ap (λ r. Word w.0 ∷ r) (opened.1 ∙ ap (λ r. Mark Open ∷ r) (l.took ∙ ap (λ r. members ++ r) close.1 ∙ sym (append_assoc members (Mark Close ∷ []) close.0)))),
-          grammar.at_most 4 w.0 some (subst (λ all. SpellsEach 0 all (l.text ∷ l.texts)) (sym l.is) (each_spells 0 (l.first ∷ l.others) (l.text ∷ l.texts) (with_first l.told l.each))))
+      again 4 (Word (codes "atmost") ∷ ts) (phrase.AtMost w.0 ms.0) p close.0 rest close.2 (
+        Word (codes "atmost") ∷ Word w.0 ∷ Mark Open ∷ members ++ Mark Close ∷ [],
+        ap (λ r. Word (codes "atmost") ∷ r) (w.2 ∙ ap (λ r. Word w.0 ∷ r) (opened.1 ∙ ap (λ r. Mark Open ∷ r) (l.took ∙ ap (λ r. members ++ r) close.1 ∙ sym (append_assoc members (Mark Close ∷ []) close.0)))),
+        grammar.at_most 4 w.0 some (subst (λ all. SpellsEach 0 all (l.text ∷ l.texts)) (sym l.is) (each_spells 0 (l.first ∷ l.others) (l.text ∷ l.texts) (with_first l.told l.each))),
+      )
 
   named-took : (name : List ℕ) (ts : List Token) (p : Phrase) (rest : List Token) → named rule name ts ≡ Ok (p, rest) → Front 4 (Word name ∷ ts) p rest
   unfolding named
@@ -232,21 +236,28 @@ module _ (rule : Reader Phrase) (rule-took : Took 0 rule) where
     where
       free : Reader Phrase
       free = cond (is_reserved name) refused (comparison name)
+
       not_at_most : Reader Phrase
       not_at_most = cond (same_spelling name (codes "table")) table free
+
       not_same : Reader Phrase
       not_same = cond (same_spelling name (codes "atmost")) (at_most rule) not_at_most
+
       called : (text : List ℕ) → same_spelling name text ≡ true → Front 4 (Word text ∷ ts) p rest → Front 4 (Word name ∷ ts) p rest
       called text is f = moved 4 (Word name ∷ ts) (Word text ∷ ts) p rest (ap (λ w. Word w ∷ ts) (same_word-true name text is)) f
+
       by_reserved : ((is_reserved name ≡ true) × (refused {A = Phrase} ts ≡ Ok (p, rest))) ⊎ ((is_reserved name ≡ false) × (comparison name ts ≡ Ok (p, rest))) → Front 4 (Word name ∷ ts) p rest
       by_reserved (inl s) = never ts p rest s.1
       by_reserved (inr s) = comparison-took name s.0 ts p rest s.1
+
       by_table : ((same_spelling name (codes "table") ≡ true) × (table ts ≡ Ok (p, rest))) ⊎ ((same_spelling name (codes "table") ≡ false) × (free ts ≡ Ok (p, rest))) → Front 4 (Word name ∷ ts) p rest
       by_table (inl s) = called (codes "table") s.0 (table-took ts p rest s.1)
       by_table (inr s) = by_reserved (branch_ok (is_reserved name) refused (comparison name) ts p rest s.1)
+
       by_at_most : ((same_spelling name (codes "atmost") ≡ true) × (at_most rule ts ≡ Ok (p, rest))) ⊎ ((same_spelling name (codes "atmost") ≡ false) × (not_at_most ts ≡ Ok (p, rest))) → Front 4 (Word name ∷ ts) p rest
       by_at_most (inl s) = called (codes "atmost") s.0 (at_most-took ts p rest s.1)
       by_at_most (inr s) = by_table (branch_ok (same_spelling name (codes "table")) table free ts p rest s.1)
+
       by : ((same_spelling name (codes "same") ≡ true) × (same ts ≡ Ok (p, rest))) ⊎ ((same_spelling name (codes "same") ≡ false) × (not_same ts ≡ Ok (p, rest))) → Front 4 (Word name ∷ ts) p rest
       by (inl s) = called (codes "same") s.0 (same-took ts p rest s.1)
       by (inr s) = by_at_most (branch_ok (same_spelling name (codes "atmost")) (at_most rule) not_at_most ts p rest s.1)
@@ -291,10 +302,11 @@ module _ (rule : Reader Phrase) (rule-took : Took 0 rule) where
       by q left premise (inl s) =
           let b = then_ok (or_chain s.0) (λ conclusion. pure (phrase.Implies q conclusion)) p rest s.2 in
           let conclusion = or_chain-took s.0 b.0 b.1 b.2 in
-          again 0 ts (phrase.Implies q b.0) p b.1 rest b.3
-              (premise.0 ++ Mark Arrow ∷ conclusion.0,
-              premise.1 ∙ ap (λ r. premise.0 ++ r) (s.1 ∙ ap (λ r. Mark Arrow ∷ r) conclusion.1) ∙ sym (append_assoc premise.0 (Mark Arrow ∷ conclusion.0) b.1),
-              grammar.implies (omega arith) premise.2 conclusion.2)
+          again 0 ts (phrase.Implies q b.0) p b.1 rest b.3 (
+            premise.0 ++ Mark Arrow ∷ conclusion.0,
+            premise.1 ∙ ap (λ r. premise.0 ++ r) (s.1 ∙ ap (λ r. Mark Arrow ∷ r) conclusion.1) ∙ sym (append_assoc premise.0 (Mark Arrow ∷ conclusion.0) b.1),
+            grammar.implies (omega arith) premise.2 conclusion.2,
+          )
       by q left premise (inr e) = again 0 ts q p left rest e (premise.0, premise.1, weaker 0 (omega arith) premise.2)
 
 pub rule_at-took : (depth : ℕ) → Took 0 (rule_at depth)

@@ -1,10 +1,10 @@
 -- Positions that were found are those of variables and values.
-use Rattle.std.proofs.Common.{◌≡◌, ℕ, zero, suc, ◌+◌, ◌≤◌, ◌<◌, ◌^◌, nat_le, nat_lt, nat_eq, Bool, true, false, cond, ◌&&◌, List, [], ◌∷◌, length, map, Option, Some, None, Ok, Err, position, slice_get, refl, sym, ap, subst, ◌∙◌, arith}
+use Rattle.std.proofs.Common.{◌≡◌, ℕ, zero, suc, ◌+◌, ◌<◌, ◌^◌, nat_lt, Bool, true, false, cond, List, [], ◌∷◌, length, map, Option, Some, None, Ok, Err, position, slice_get, refl, sym, ap, ◌∙◌, arith}
 use Rattle.std.specs.Prelude.{◌==◌, is_some, option_and_then}
 use Rattle.std.specs.List.{list_all, zip}
-use Rattle.std.specs.Option.{option_map, unwrap_or}
+use Rattle.std.specs.Option.{option_map}
 use Rattle.std.proofs.lemmas.List.{length-map}
-use Rattle.std.proofs.lemmas.Option.{slice_get_within, slice_get-map, slice_get-get_or}
+use Rattle.std.proofs.lemmas.Option.{slice_get_within, slice_get-map}
 use Rattle.std.proofs.lemmas.Bool.{and_from, and_parts, le-leb, eq-eqb, eqb-true}
 use Rattle.pc_names.specs.Name.{is_name}
 use Rattle.pc_names.proofs.Places.{first_place_of_name}
@@ -101,9 +101,10 @@ module _ (names : Catalogue) (variables : List Variable) (holds : HoldsNames nam
       let a = bind_ok (value_at names v word) (λ y. rest >>= λ more. Ok (y ∷ more)) these e in
       let b = bind_ok rest (λ more. Ok (a.0 ∷ more)) these a.2 in
       let others = are_values vs words b.0 (omega arith) b.1 in
-      let is = the_ok (a.0 ∷ b.0) these b.2 in
-      (ap length (sym is) ∙ ap suc others.0,
-      ap (λ l. list_all (λ p. has_value variables p.0 p.1) (zip (v ∷ vs) l)) (sym is) ∙ and_from (has_value variables v a.0) (list_all (λ p. has_value variables p.0 p.1) (zip vs b.0)) (value_at-has v word a.0 a.1) others.1)
+      let is = the_ok (a.0 ∷ b.0) these b.2 in (
+        ap length (sym is) ∙ ap suc others.0,
+        ap (λ l. list_all (λ p. has_value variables p.0 p.1) (zip (v ∷ vs) l)) (sym is) ∙ and_from (has_value variables v a.0) (list_all (λ p. has_value variables p.0 p.1) (zip vs b.0)) (value_at-has v word a.0 a.1) others.1,
+      )
 
   pub row_at-is : (vs : List ℕ) (words : List (List ℕ)) (these : List ℕ) → length words ≡ length vs → row_at names vs words ≡ Ok these → is_row variables vs these ≡ true
   unfolding row_at

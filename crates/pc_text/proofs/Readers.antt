@@ -1,5 +1,5 @@
 -- What the readers of words, signs and lists took.
-use Rattle.std.proofs.Common.{◌≡◌, ℕ, zero, suc, ◌≤◌, nat_le, Bool, true, false, not, cond, ◌⊎◌, inl, inr, List, [], ◌∷◌, ◌++◌, length, drop, map, subst, Result, Ok, Err, refl, sym, ap, ◌∙◌, append_assoc, arith, rules}
+use Rattle.std.proofs.Common.{◌≡◌, ℕ, zero, suc, ◌≤◌, nat_le, Bool, true, false, not, cond, ◌⊎◌, inl, inr, List, [], ◌∷◌, ◌++◌, length, drop, map, subst, Ok, Err, refl, sym, ap, ◌∙◌, append_assoc, arith, rules}
 use denote.Enum.Bare.{same_true}
 use Rattle.std.proofs.lemmas.Bool.{and_from, not_from_false, le-leb}
 use Rattle.pc_names.proofs.Places.{name_eq-Decides}
@@ -87,10 +87,10 @@ unfolding expect
 expect-took sign x ts rest e =
     let s = then_ok (eat sign ts) (λ found. cond found (pure tt) refused) x rest e in
     by s.0 s.1 s.2 s.3
-    where
-      by : (found : Bool) (left : List Token) → eat sign ts ≡ Ok (found, left) → (cond found (pure tt) refused) left ≡ Ok (x, rest) → ts ≡ Mark sign ∷ rest
-      by true left took e = eat-took sign ts left took ∙ ap (λ r. Mark sign ∷ r) (the_pair tt x left rest e).1
-      by false left took e = never left x rest e
+  where
+    by : (found : Bool) (left : List Token) → eat sign ts ≡ Ok (found, left) → (cond found (pure tt) refused) left ≡ Ok (x, rest) → ts ≡ Mark sign ∷ rest
+    by true left took e = eat-took sign ts left took ∙ ap (λ r. Mark sign ∷ r) (the_pair tt x left rest e).1
+    by false left took e = never left x rest e
 
 pub word-took : (text : List ℕ) (ts rest : List Token) → word ts ≡ Ok (text, rest) → ts ≡ Word text ∷ rest
 unfolding word
@@ -103,12 +103,12 @@ unfolding variable
 variable-took text ts rest e =
     let s = then_ok (word ts) (λ name. cond (is_reserved name) refused (pure name)) text rest e in
     by s.0 s.1 s.2 (is_reserved s.0) refl s.3
-    where
-      by : (name : List ℕ) (left : List Token) → word ts ≡ Ok (name, left) → (b : Bool) → is_reserved name ≡ b → (cond b refused (pure name)) left ≡ Ok (text, rest) → (ts ≡ Word text ∷ rest) × IsFree text
-      by name left took true is e = never left text rest e
-      by name left took false is e =
-          let parts = the_pair name text left rest e in
-          (word-took name ts left took ∙ ap (λ w. Word w ∷ left) parts.0 ∙ ap (λ r. Word text ∷ r) parts.1, ap is_reserved (sym parts.0) ∙ is)
+  where
+    by : (name : List ℕ) (left : List Token) → word ts ≡ Ok (name, left) → (b : Bool) → is_reserved name ≡ b → (cond b refused (pure name)) left ≡ Ok (text, rest) → (ts ≡ Word text ∷ rest) × IsFree text
+    by name left took true is e = never left text rest e
+    by name left took false is e =
+        let parts = the_pair name text left rest e in
+        (word-took name ts left took ∙ ap (λ w. Word w ∷ left) parts.0 ∙ ap (λ r. Word text ∷ r) parts.1, ap is_reserved (sym parts.0) ∙ is)
 
 -- each item is told by its text
 pub data EachBy {A : Type 0} (P : A → List Token → Type 0) : List A → List (List Token) → Type 0 where
@@ -138,34 +138,34 @@ module _ {A : Type 0} (P : A → List Token → Type 0) (item : Reader A) (joint
       let t = then_ok (joint s.1) (λ more. cond more (several_from item joint turns (found ++ s.0 ∷ [])) (pure (found ++ s.0 ∷ []))) all rest s.3 in
       let took = item-took ts s.0 s.1 s.2 in
       by (λ front left e. several_from-took turns front all left rest e) s.0 s.1 took.0 took.1 took.2 t.0 t.1 t.2 t.3
-      where
-        by : ((front : List A) (left : List Token) → several_from item joint turns front left ≡ Ok (all, rest) → Listed P between front all left rest) →
-            (x : A) (left text : List Token) → ts ≡ text ++ left → P x text → (more : Bool) (after : List Token) → joint left ≡ Ok (more, after) →
-            (cond more (several_from item joint turns (found ++ x ∷ [])) (pure (found ++ x ∷ []))) after ≡ Ok (all, rest) → Listed P between found all ts rest
-        by again x left text took told true after sep e =
-            let l = again (found ++ x ∷ []) after e in
-            record {
-              first = x;
-              text = text;
-              others = l.first ∷ l.others;
-              texts = l.text ∷ l.texts;
-              is = l.is ∙ append_assoc found (x ∷ []) (l.first ∷ l.others);
-              took = took ∙ ap (λ r. text ++ r) (joint-took left after sep ∙ ap (λ r. between ∷ r) l.took) ∙ sym (append_assoc text (between ∷ parted between (l.text ∷ l.texts)) rest);
-              told = told;
-              each = with_first l.told l.each;
-            }
-        by again x left text took told false after sep e =
-            let parts = the_pair (found ++ x ∷ []) all after rest e in
-            record {
-              first = x;
-              text = text;
-              others = [];
-              texts = [];
-              is = sym parts.0;
-              took = took ∙ ap (λ r. text ++ r) (sym (joint-left left after sep) ∙ parts.1);
-              told = told;
-              each = empty;
-            }
+    where
+      by : ((front : List A) (left : List Token) → several_from item joint turns front left ≡ Ok (all, rest) → Listed P between front all left rest) →
+          (x : A) (left text : List Token) → ts ≡ text ++ left → P x text → (more : Bool) (after : List Token) → joint left ≡ Ok (more, after) →
+          (cond more (several_from item joint turns (found ++ x ∷ [])) (pure (found ++ x ∷ []))) after ≡ Ok (all, rest) → Listed P between found all ts rest
+      by again x left text took told true after sep e =
+          let l = again (found ++ x ∷ []) after e in
+          record {
+            first = x;
+            text = text;
+            others = l.first ∷ l.others;
+            texts = l.text ∷ l.texts;
+            is = l.is ∙ append_assoc found (x ∷ []) (l.first ∷ l.others);
+            took = took ∙ ap (λ r. text ++ r) (joint-took left after sep ∙ ap (λ r. between ∷ r) l.took) ∙ sym (append_assoc text (between ∷ parted between (l.text ∷ l.texts)) rest);
+            told = told;
+            each = with_first l.told l.each;
+          }
+      by again x left text took told false after sep e =
+          let parts = the_pair (found ++ x ∷ []) all after rest e in
+          record {
+            first = x;
+            text = text;
+            others = [];
+            texts = [];
+            is = sym parts.0;
+            took = took ∙ ap (λ r. text ++ r) (sym (joint-left left after sep) ∙ parts.1);
+            told = told;
+            each = empty;
+          }
 
   pub several-took : (all : List A) (ts rest : List Token) → several item joint ts ≡ Ok (all, rest) → Listed P between [] all ts rest
   several-took all ts rest e = several_from-took (length ts) [] all ts rest e

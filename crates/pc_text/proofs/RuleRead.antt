@@ -1,7 +1,6 @@
 -- A rule in a text: what is read, and what is spelled.
-use Rattle.std.proofs.Common.{◌≡◌, ℕ, ◌+◌, ◌≤◌, nat_lt, Bool, true, false, cond, ◌||◌, List, [], ◌∷◌, ◌++◌, length, Result, IfOk, Ok, Err, refl, sym, ap, subst, ◌∙◌, arith}
-use Rattle.std.proofs.lemmas.Bool.{and_from, le-ltb}
-use Rattle.std.proofs.lemmas.List.{append-nil}
+use Rattle.std.proofs.Common.{◌≡◌, ℕ, Bool, true, false, List, Result, IfOk, Ok, Err, refl, sym, ap, ◌∙◌}
+use Rattle.std.proofs.lemmas.Bool.{and_from}
 use Rattle.pc_file.specs.declared.catalogue.Catalogue.{Catalogue}
 use Rattle.pc_file.specs.declared.rule.Rule.{Rule}
 use Rattle.pc_file.specs.declared.variable.Variable.{Variable}
@@ -13,9 +12,8 @@ use Rattle.pc_text.specs.declared.phrase.Phrase.{Phrase}
 use Rattle.pc_text.specs.declared.token.Token.{Token}
 use Rattle.pc_text.specs.declared.fault.RuleFault.{RuleFault}
 use Rattle.pc_text.specs.Outcome.{Outcome, ◌>>=◌, ◌>>◌, unless, Gives}
-use Rattle.pc_text.specs.Token.{one_if_open, one_if_closed, tokens_of, is_deep_after, is_too_deep}
+use Rattle.pc_text.specs.Token.{tokens_of, is_too_deep}
 use Rattle.pc_text.specs.Reading.{phrase_of}
-use Rattle.pc_text.specs.Grammar.{Spells}
 use Rattle.pc_text.specs.RuleFaults.{has_fault, has_repeat}
 use Rattle.pc_text.specs.Naming.{rule_named, HoldsNames}
 use Rattle.pc_text.specs.RuleText.{rule_of, IsRuleText}

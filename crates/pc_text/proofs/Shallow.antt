@@ -1,5 +1,5 @@
 -- The printed form of a rule that is read opens no more parentheses at once than the text did.
-use Rattle.std.proofs.Common.{◌≡◌, ℕ, suc, ◌+◌, ◌-◌, ◌≤◌, ◌<◌, nat_le, nat_lt, max, Bool, true, false, cond, ◌||◌, List, [], ◌∷◌, ◌++◌, length, codes, map, Ok, refl, sym, ap, subst, ◌∙◌, arith}
+use Rattle.std.proofs.Common.{◌≡◌, ℕ, suc, ◌+◌, ◌-◌, ◌≤◌, nat_le, nat_lt, max, Bool, true, false, cond, List, [], ◌∷◌, ◌++◌, codes, map, Ok, refl, sym, ap, subst, ◌∙◌, arith}
 use Rattle.std.specs.Option.{unwrap_or}
 use Rattle.std.specs.List.{list_all}
 use Rattle.std.proofs.lemmas.Bool.{or_parts, and_from, ltb-false, le-ltb, le-leb, leb-true}
@@ -11,7 +11,7 @@ use Rattle.pc_file.specs.Limits.{is_shallow}
 use Rattle.pc_file.proofs.NestingLemmas.{within-places, nesting-And, nesting-Or, nesting-AtMost}
 use Rattle.pc_text.specs.declared.phrase.Phrase.{Phrase}
 use Rattle.pc_text.specs.declared.phrase.Phrase.TheVariants as phrase
-use Rattle.pc_text.specs.declared.token.Sign.TheVariants.{Arrow, NotEqual, Equal, Open, Close, OpenBrace, CloseBrace, Comma}
+use Rattle.pc_text.specs.declared.token.Sign.TheVariants.{Arrow, Open, Close, OpenBrace, CloseBrace, Comma}
 use Rattle.pc_text.specs.declared.token.Token.{Token}
 use Rattle.pc_text.specs.declared.token.Token.TheVariants.{Mark, Word}
 use Rattle.pc_text.specs.Outcome.{Outcome, ◌>>=◌}

@@ -1,5 +1,5 @@
 -- A rule that is read can be spelled.
-use Rattle.std.proofs.Common.{◌≡◌, ℕ, ◌≤◌, nat_le, nat_lt, Bool, true, false, not, cond, ◌&&◌, ◌||◌, List, [], ◌∷◌, length, map, Option, Some, None, Ok, refl, sym, ap, subst, ◌∙◌, arith}
+use Rattle.std.proofs.Common.{◌≡◌, ℕ, ◌≤◌, nat_le, Bool, true, false, not, ◌&&◌, List, [], ◌∷◌, length, map, Option, Some, None, Ok, refl, sym, ap, subst, ◌∙◌, arith}
 use Rattle.std.specs.Prelude.{◌==◌, is_some}
 use Rattle.std.specs.Option.{unwrap_or}
 use Rattle.std.specs.List.{list_all, list_any}
@@ -9,9 +9,8 @@ use Rattle.pc_file.specs.declared.catalogue.Catalogue.{Catalogue}
 use Rattle.pc_file.specs.declared.variable.Variable.{Variable}
 use Rattle.pc_file.specs.declared.rule.Rule.{Rule}
 use Rattle.pc_file.specs.declared.rule.Rule.TheVariants as rule
-use Rattle.pc_file.specs.Limits.{has_variable, has_value, is_row, is_spelled_step, is_spelled}
+use Rattle.pc_file.specs.Limits.{has_variable, has_value, is_spelled_step, is_spelled}
 use Rattle.pc_file.proofs.RuleLemmas.{is_spelled-And, is_spelled-Or, is_spelled-AtMost}
-use Rattle.pc_text.specs.declared.checks.AtMostFault.{AtMostFault}
 use Rattle.pc_text.specs.declared.checks.AtMostFault.TheVariants.{Number, Length}
 use Rattle.pc_text.specs.declared.phrase.Phrase.{Phrase}
 use Rattle.pc_text.specs.declared.phrase.Phrase.TheVariants as phrase
@@ -37,7 +36,6 @@ a_count (Some n) e = refl
 module _ (names : Catalogue) (variables : List Variable) (holds : HoldsNames names variables) where
   abbrev outcome : Type 0
   outcome = Outcome Rule
-
 
   spelled-Is : (v a : List ℕ) (r : Rule) → rule_named names (phrase.Is v a) ≡ Ok r → is_spelled variables r ≡ true
   spelled-Is v a r e =
@@ -138,7 +136,7 @@ module _ (names : Catalogue) (variables : List Variable) (holds : HoldsNames nam
         let within : length b.0 ≤ 64 = omega (arith, all.1) in
         ap (is_spelled variables) (sym is) ∙ is_spelled-AtMost variables count b.0
         ∙ and_from (nat_le count 64 && nat_le 1 (length b.0) && nat_le (length b.0) 64) (list_all (is_spelled variables) b.0)
-            (and_from (nat_le count 64 && nat_le 1 (length b.0)) (nat_le (length b.0) 64) (and_from (nat_le count 64) (nat_le 1 (length b.0)) (le-leb count 64 little) (le-leb 1 (length b.0) many)) (le-leb (length b.0) 64 within)) all.0
+        (and_from (nat_le count 64 && nat_le 1 (length b.0)) (nat_le (length b.0) 64) (and_from (nat_le count 64) (nat_le 1 (length b.0)) (le-leb count 64 little) (le-leb 1 (length b.0) many)) (le-leb (length b.0) 64 within)) all.0
 
     pub each_spelled : {place : ℕ} {ps : List Phrase} {texts : List (List Token)} → SpellsEach place ps texts → (rs : List Rule) → all_ok (map (rule_named names) ps) ≡ Ok rs →
         list_any (has_fault Number) ps ≡ false → list_any (has_fault Length) ps ≡ false → list_any has_repeat rs ≡ false → (list_all (is_spelled variables) rs ≡ true) × (length rs ≡ length ps)

@@ -1,14 +1,13 @@
 -- What the readers of words, signs and lists make of the tokens that spell such.
-use Rattle.std.proofs.Common.{◌≡◌, ℕ, zero, suc, ◌+◌, ◌≤◌, ◌<◌, nat_le, Bool, true, false, not, cond, ◌&&◌, List, [], ◌∷◌, ◌++◌, length, codes, map, Ok, Err, refl, sym, ap, subst, ◌∙◌, append_assoc, length-append, arith}
+use Rattle.std.proofs.Common.{◌≡◌, ℕ, zero, suc, ◌+◌, ◌≤◌, nat_le, Bool, true, false, not, cond, List, [], ◌∷◌, ◌++◌, length, map, Ok, refl, sym, ap, ◌∙◌, append_assoc, length-append, arith}
 use Rattle.std.specs.List.{list_all}
 use Rattle.std.proofs.lemmas.Bool.{and_parts, not-true, leb-true}
 use Rattle.pc_file.specs.Limits.{is_reserved}
 use Rattle.pc_text.specs.declared.token.Sign.{Sign}
-use Rattle.pc_text.specs.declared.token.Sign.TheVariants.{Arrow, NotEqual, Equal, Open, Close, OpenBrace, CloseBrace, Comma}
+use Rattle.pc_text.specs.declared.token.Sign.TheVariants.{Comma}
 use Rattle.pc_text.specs.declared.token.Token.{Token}
 use Rattle.pc_text.specs.declared.token.Token.TheVariants.{Mark, Word}
-use Rattle.pc_text.specs.Outcome.{Outcome}
-use Rattle.pc_text.specs.Words.{Reader, and_then, ◌>>=◌, ◌>>◌, pure, refused, same_sign, sees, sees_word, past, eat, eat_word, expect, word, variable, several_from, several, listed, words_at, some, row}
+use Rattle.pc_text.specs.Words.{Reader, and_then, ◌>>=◌, pure, refused, same_sign, sees, past, eat, expect, word, variable, several_from, several, listed, words_at, some, row}
 use Rattle.pc_text.specs.Grammar.{parted, alone_word, IsFree, AreFree, AreRows}
 
 module _ {A : Type 0} (item : Reader A) (joint : Reader Bool) (between : Token) (Follows : List Token → Type 0) where
@@ -136,7 +135,7 @@ variables-read [] rest many free end = absurd (omega arith)
 variables-read (w ∷ words) rest many free end =
     let parts = and_parts (not (is_reserved w)) (list_all (λ word. not (is_reserved word)) words) free in
     several-reads variable (eat Comma) (Mark Comma) Anything comma (λ us. tt) w (alone_word w) words (map alone_word words) rest
-        (record { some = omega arith; gives = λ r _. variable-reads w r (not-true (is_reserved w) parts.0) }) (each_variable words parts.1) tt end
+    (record { some = omega arith; gives = λ r _. variable-reads w r (not-true (is_reserved w) parts.0) }) (each_variable words parts.1) tt end
 
 pub rows-read : (rows : List (List (List ℕ))) (rest : List Token) → 1 ≤ length rows → AreRows rows → BeginsWithSign rest → NoComma rest → listed row (parted (Mark Comma) (map (map Word) rows) ++ rest) ≡ Ok (rows, rest)
 unfolding listed
@@ -145,4 +144,4 @@ rows-read (r ∷ rows) rest many are begins end =
     let parts = and_parts (nat_le 1 (length r)) (list_all (λ row. nat_le 1 (length row)) rows) are in
     let one : 1 ≤ length r = leb-true 1 (length r) parts.0 in
     several-reads row (eat Comma) (Mark Comma) BeginsWithSign comma (λ us. record { sign = Comma; after = us; is = refl }) r (map Word r) rows (map (map Word) rows) rest
-        (record { some = omega (arith, one, length-words r); gives = λ s begins. row-reads r s one begins }) (each_row rows parts.1) begins end
+    (record { some = omega (arith, one, length-words r); gives = λ s begins. row-reads r s one begins }) (each_row rows parts.1) begins end

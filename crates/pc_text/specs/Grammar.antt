@@ -51,7 +51,7 @@ mutual
         Spells place (phrase.AtMost most rules) (Word (codes "atmost") ∷ Word most ∷ Mark Open ∷ parted (Mark Comma) texts ++ Mark Close ∷ [])
     table : (place : ℕ) (variables : List (List ℕ)) (rows : List (List (List ℕ))) → 1 ≤ length variables → AreFree variables → 1 ≤ length rows → AreRows rows → are_as_long variables rows ≡ true →
         Spells place (phrase.Table variables rows)
-            (Word (codes "table") ∷ Mark Open ∷ parted (Mark Comma) (map alone_word variables) ++ Mark Close ∷ Mark OpenBrace ∷ parted (Mark Comma) (map (map Word) rows) ++ Mark CloseBrace ∷ [])
+        (Word (codes "table") ∷ Mark Open ∷ parted (Mark Comma) (map alone_word variables) ++ Mark Close ∷ Mark OpenBrace ∷ parted (Mark Comma) (map (map Word) rows) ++ Mark CloseBrace ∷ [])
 
   -- each phrase in such a place by its text
   pub data SpellsEach : ℕ → List Phrase → List (List Token) → Type 0 where

@@ -1,5 +1,5 @@
 -- How the bytes of a rule are cut into tokens.
-use Rattle.std.specs.Prelude.{ℕ, zero, suc, ◌+◌, ◌-◌, ◌==◌, nat_lt, Bool, false, ◌&&◌, ◌||◌, if◌then◌else◌, List, [], ◌∷◌, length, slice_index, codes, Option, Some, None, Ok, Err}
+use Rattle.std.specs.Prelude.{ℕ, zero, suc, ◌+◌, ◌-◌, ◌==◌, nat_lt, Bool, false, ◌||◌, if◌then◌else◌, List, [], ◌∷◌, length, slice_index, codes, Option, Some, None, Ok, Err}
 use Rattle.std.specs.List.{take_while}
 use Rattle.pc_names.specs.Name.{is_name_byte}
 use Rattle.pc_text.specs.declared.kind.Kind.TheVariants as kind

@@ -11,6 +11,7 @@ mod forms;
 mod grammar;
 mod keyword;
 mod kind;
+mod laws;
 mod line_words;
 mod lines;
 mod lists;
@@ -27,6 +28,7 @@ mod words;
 
 pub use fault::RuleFault;
 pub use kind::Kind;
+pub use laws::tokens_tell_phrase;
 pub use rule_text::read_rule;
 pub use text::{crowded_line, read_file};
 pub use text_fault::TextFault;

@@ -33,11 +33,7 @@ pub fn read_rule(alloc: Global, names: &Catalogue, text: &[u8]) -> Result<Rule, 
 }
 
 #[tactic(auto, unfolding(crate::specs::RuleText::rule_of))]
-fn first_fault_or_rule(
-    alloc: Global,
-    names: &Catalogue,
-    text: &[u8],
-) -> Result<Rule, RuleFault>
+fn first_fault_or_rule(alloc: Global, names: &Catalogue, text: &[u8]) -> Result<Rule, RuleFault>
     ensures { Gives (λ rule. rule) result (spec.rule_of names.now text.now) }
 {
     let tokens = tokens(alloc, text)?;

@@ -1,7 +1,7 @@
-use Rattle.std.proofs.Common.{ap, rules, arith}
+use Rattle.std.proofs.Common.{rules, arith}
 use Rattle.std.proofs.lemmas.Grind.{common_steps}
 use Rattle.pc_text.specs.declared.token.Sign.TheVariants.{Comma}
-use Rattle.pc_text.specs.Words.{listed, several, several_from, eat, eat_word}
+use Rattle.pc_text.specs.Words.{listed, several_from, eat, eat_word}
 use Rattle.pc_text.specs.Reading as spec
 use Rattle.pc_text.specs.Reading.{rule_at}
 use Rattle.pc_text.proofs.Turns.{one_more, no_more, deeper}

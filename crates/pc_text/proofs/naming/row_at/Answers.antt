@@ -1,11 +1,11 @@
-use Rattle.std.proofs.Common.{◌≡◌, ◌<◌, ◌≤◌, ◌+◌, ◌++◌, ◌∷◌, [], min, ℕ, List, Ok, length, get_or, rules, arith, sym, ap, subst, ◌∙◌, add-one, length-append}
+use Rattle.std.proofs.Common.{◌≡◌, ◌<◌, ◌≤◌, ◌+◌, ◌++◌, ◌∷◌, [], min, ℕ, List, length, get_or, rules, arith, sym, ap, subst, ◌∙◌, length-append}
 use Rattle.std.specs.List.{zip}
 use Rattle.std.specs.Iterator.Adapters.{zip_first, zip_second}
 use Rattle.std.specs.Slice.Iter.{iter_rest}
 use Rattle.std.proofs.lemmas.Grind.{common_steps}
 use Rattle.std.proofs.lemmas.Slice.Zip.{zip_turn, zip_end, length-zip, get_or-zip}
 use Rattle.pc_text.specs.Outcome.{Outcome, Fails}
-use Rattle.pc_text.specs.Naming.{value_at, row_at}
+use Rattle.pc_text.specs.Naming.{value_at}
 use Rattle.pc_text.proofs.OutcomeLemmas.{with_front, all_ok-more, all_ok-fails, all_ok-done}
 use Rattle.pc_text.proofs.naming.row_at.Goals as goal
 

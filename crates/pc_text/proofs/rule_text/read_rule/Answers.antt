@@ -21,4 +21,4 @@ returns-clause-fits c =
     let names = c.args.names.now in
     let text = c.args.text.now in
     λ variables holds. if_read c.first_fault_or_rule.result (rule_of names text) (λ rule. is_rule variables rule ≡ true) c.first_fault_or_rule.ensures
-        (λ rule e. rule_fits names text rule variables holds (rule_of-read names text rule e))
+    (λ rule e. rule_fits names text rule variables holds (rule_of-read names text rule e))
