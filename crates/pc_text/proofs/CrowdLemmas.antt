@@ -1,6 +1,5 @@
 -- How many words there are, and where they become too many.
-use Rattle.std.proofs.Common.{◌≡◌, ℕ, ◌+◌, ◌*◌, ◌<◌, ◌≤◌, Bool, true, false, true≢false, nat_lt, cond, List, [], ◌∷◌, ◌++◌, length, map, Option, Some, None, MatchOption, IsSome, refl, sym, ap, ◌∙◌, arith}
-use Rattle.std.specs.Option.{option_to_list, option_map}
+use Rattle.std.proofs.Common.{◌≡◌, ℕ, ◌+◌, ◌*◌, ◌<◌, ◌≤◌, Bool, true, false, true≢false, nat_lt, cond, List, [], ◌∷◌, ◌++◌, length, Option, Some, None, IsSome, refl, sym, ap, ◌∙◌, arith}
 use Rattle.std.proofs.lemmas.Bool.Decides.{nat_tests}
 use Rattle.pc_base.specs.Lines.{first_line, after_line, lines}
 use Rattle.pc_base.proofs.LineCuts.{lines-first, lines-nil}

@@ -1,6 +1,6 @@
 -- The first fault, line by line.
-use Rattle.std.proofs.Common.{◌≡◌, ℕ, ◌+◌, ◌-◌, ◌<◌, ◌≤◌, Bool, true, false, ◌⊎◌, min, List, [], ◌∷◌, ◌++◌, length, drop, Option, Some, None, refl, sym, ap, ◌∙◌, inl, inr, arith, length-append}
-use Rattle.pc_base.specs.Lines.{HasNoFeed, first_line, from_feed, after_line, lines}
+use Rattle.std.proofs.Common.{◌≡◌, ℕ, ◌+◌, ◌-◌, ◌<◌, ◌≤◌, true, false, ◌⊎◌, min, List, [], ◌∷◌, ◌++◌, length, drop, Some, None, refl, sym, ap, ◌∙◌, inl, inr, arith, length-append}
+use Rattle.pc_base.specs.Lines.{first_line, after_line, lines}
 use Rattle.pc_base.proofs.LineCuts.{Cut, none, feed, cut, first_line-whole, from_feed-none, first_line-at_feed, from_feed-at_feed, lines-first, lines-nil}
 use Rattle.pc_text.specs.declared.kind.Kind.{Kind}
 use Rattle.pc_text.specs.declared.kind.Kind.TheVariants.{Size}

@@ -1,5 +1,5 @@
 -- Words are cut off a line one after the other.
-use Rattle.std.proofs.Common.{◌≡◌, ℕ, suc, ◌+◌, ◌<◌, ◌≤◌, Bool, true, false, not, cond, List, [], ◌∷◌, length, take, drop, refl, sym, ap, ◌∙◌, inl, inr, arith, length-drop}
+use Rattle.std.proofs.Common.{◌≡◌, ℕ, ◌<◌, true, false, not, List, [], ◌∷◌, length, drop, refl, sym, ap, ◌∙◌, inl, inr, arith, length-drop}
 use Rattle.std.proofs.Math.Numerals.{one-add}
 use Rattle.std.specs.List.{onto_first, position_or_len, before_first}
 use Rattle.std.proofs.lemmas.Bool.{cases_Bool}

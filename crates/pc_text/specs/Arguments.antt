@@ -1,12 +1,12 @@
 -- The words after the keyword of a statement.
-use Rattle.std.specs.Prelude.{◌≡◌, ℕ, ◌+◌, drop, Bool, true, false, not, ◌&&◌, ◌==◌, List, [], ◌∷◌, length, map, Option, Some, None, Result, Ok, Err}
+use Rattle.std.specs.Prelude.{◌≡◌, ℕ, ◌+◌, drop, Bool, true, false, not, ◌&&◌, ◌==◌, List, length, map, Option, Some, None, Result, Ok, Err}
 use Rattle.std.specs.Borrow.{Bor}
 use Rattle.pc_names.specs.Name.{is_name}
 use Rattle.pc_file.specs.Limits.{is_reserved}
 use Rattle.std.specs.List.{list_all}
 use Rattle.pc_file.specs.declared.variable.Value.{Value}
 use Rattle.pc_text.specs.declared.fault.RuleFault.{RuleFault}
-use Rattle.pc_text.specs.declared.fault.RuleFault.TheVariants.{Fault, NoMemory}
+use Rattle.pc_text.specs.declared.fault.RuleFault.TheVariants.{Fault}
 use Rattle.pc_text.specs.declared.kind.Kind.TheVariants as kind
 use Rattle.pc_text.specs.Given.{argument, value_given}
 use Rattle.pc_text.specs.Orders.{is_cost_text}

@@ -1,5 +1,5 @@
 -- What the statements so far give: the beginning of a file.
-use Rattle.std.specs.Prelude.{◌≡◌, ℕ, ℤ, pos, Bool, List, [], ◌∷◌, ◌++◌, length, map, slice_index, slice_index_or, ◌==◌, ◌||◌, Option, Some, None, option_map, Result, Ok, Err}
+use Rattle.std.specs.Prelude.{ℕ, ℤ, pos, Bool, List, [], ◌∷◌, ◌++◌, length, map, slice_index, slice_index_or, ◌==◌, ◌||◌, Option, Some, None, option_map, Result, Ok, Err}
 use Rattle.std.specs.Option.{unwrap_or, option_to_list}
 use Rattle.pc_names.specs.Number.{int_of}
 use Rattle.pc_file.specs.declared.catalogue.Catalogue.{Catalogue}

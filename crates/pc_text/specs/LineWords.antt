@@ -1,5 +1,5 @@
 -- The words of a line: its maximal runs of bytes other than the space.
-use Rattle.std.specs.Prelude.{ℕ, ◌==◌, Bool, true, false, not, if◌then◌else◌, List, [], ◌∷◌, drop}
+use Rattle.std.specs.Prelude.{ℕ, ◌==◌, Bool, false, not, if◌then◌else◌, List, [], ◌∷◌, drop}
 use Rattle.std.specs.List.{onto_first, position_or_len, before_first}
 
 abbrev pub is_space : ℕ → Bool

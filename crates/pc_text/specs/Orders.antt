@@ -1,5 +1,5 @@
 -- What may be wrong with a statement, each as a fact about what the lines before give and this line. Of several the first is told.
-use Rattle.std.specs.Prelude.{ℕ, ℤ, ◌+◌, nat_le, nat_lt, min, Bool, true, false, not, ◌&&◌, ◌||◌, ◌==◌, if◌then◌else◌, List, [], ◌∷◌, length, map, drop, codes, Option, Some, None, is_none, is_some, Result, Ok, Err}
+use Rattle.std.specs.Prelude.{ℕ, ℤ, ◌+◌, nat_le, Bool, false, not, ◌&&◌, ◌==◌, if◌then◌else◌, List, [], ◌∷◌, length, drop, codes, Option, Some, None, is_none, Result, Ok, Err}
 use Rattle.std.specs.List.{list_all, list_any}
 use Rattle.pc_names.specs.Name.{is_name}
 use Rattle.pc_names.specs.Number.{int_of}

@@ -1,6 +1,5 @@
 -- What a function of the reader tells, set beside what reading gives. Want of memory tells nothing.
 use Rattle.std.specs.Prelude.{◌≡◌, ℕ, Option, Some, None, Result, Ok, Err}
-use Rattle.pc_file.specs.declared.rule.Rule.{Rule}
 use Rattle.pc_text.specs.declared.fault.RuleFault.{RuleFault}
 use Rattle.pc_text.specs.declared.fault.RuleFault.TheVariants.{Fault, NoMemory}
 use Rattle.pc_text.specs.declared.kind.Kind.{Kind}

@@ -1,8 +1,8 @@
-use Rattle.std.proofs.Common.{◌≡◌, ℕ, ◌<◌, List, [], ◌∷◌, ◌++◌, length, map, refl, sym, ap, ◌∙◌, append_assoc, arith}
+use Rattle.std.proofs.Common.{◌≡◌, ℕ, ◌<◌, List, [], ◌∷◌, ◌++◌, length, map, sym, ap, ◌∙◌, append_assoc, arith}
 use Rattle.std.specs.Borrow.{Bor}
-use Rattle.std.proofs.lemmas.Bool.{eqb-true, eqb-false}
+use Rattle.std.proofs.lemmas.Bool.{eqb-true}
 use Rattle.std.proofs.lemmas.List.{append-nil, map_push}
-use Rattle.pc_text.specs.LineWords.{words, first_word, after_word}
+use Rattle.pc_text.specs.LineWords.{words, after_word}
 use Rattle.pc_text.proofs.LineWordLemmas.{cut_words, no_words, first_of_words}
 use Rattle.pc_text.proofs.line_words.words.Goals as goal
 

@@ -1,8 +1,8 @@
-use Rattle.std.proofs.Common.{◌≡◌, ℕ, ◌+◌, ◌-◌, ◌≤◌, List, [], length, take, drop, sym, ap, ◌∙◌, arith, length-drop}
+use Rattle.std.proofs.Common.{◌≡◌, ◌+◌, ◌-◌, length, take, drop, sym, ap, ◌∙◌, arith, length-drop}
 use Rattle.std.specs.List.{position_or_len}
 use Rattle.std.proofs.Math.Seq.{take-length, drop-length}
 use Rattle.std.proofs.lemmas.List.{drop-drop}
-use Rattle.pc_base.specs.Lines.{is_feed, first_line, from_feed, after_line}
+use Rattle.pc_base.specs.Lines.{is_feed}
 use Rattle.pc_text.proofs.LineLemmas.{first_line-is, from_feed-is}
 use Rattle.pc_text.proofs.lines.cut_line.Goals as goal
 

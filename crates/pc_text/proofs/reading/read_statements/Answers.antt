@@ -1,17 +1,13 @@
-use Rattle.std.proofs.Common.{◌≡◌, ℕ, ◌+◌, ◌-◌, ◌<◌, ◌≤◌, Bool, true, false, ◌||◌, nat_lt, List, [], length, Option, Some, None, Err, refl, sym, ap, subst, ◌∙◌, arith}
+use Rattle.std.proofs.Common.{◌≡◌, ℕ, ◌+◌, ◌-◌, ◌<◌, ◌≤◌, Bool, true, false, ◌||◌, nat_lt, [], length, Option, Some, None, Err, sym, ap, ◌∙◌, arith}
 use Rattle.std.proofs.lemmas.List.{nil_from_length}
-use Rattle.std.proofs.lemmas.Bool.{eqb-true, or_parts}
+use Rattle.std.proofs.lemmas.Bool.{or_parts}
 use Rattle.std.proofs.lemmas.Bool.Decides.{nat_tests}
-use Rattle.std.proofs.lemmas.Result.{err_from_is_err_and}
-use Rattle.pc_base.specs.Lines.{first_line, after_line, lines}
 use Rattle.pc_text.specs.declared.kind.Kind.{Kind}
-use Rattle.pc_text.specs.declared.kind.Kind.TheVariants.{Size}
 use Rattle.pc_text.specs.declared.text_fault.TextFault.{TextFault}
 use Rattle.pc_text.specs.declared.text_fault.TextFault.TheVariants.{At, NoMemory}
 use Rattle.pc_text.specs.declared.reading.Statements.{Statements}
 use Rattle.pc_text.specs.Told.{AnswersAt, ReadsText}
-use Rattle.pc_text.specs.Given.{Given}
-use Rattle.pc_text.specs.FirstFault.{is_large, end_fault, at, fault_from, given_from, first_fault, given_by, give_line, line_fault}
+use Rattle.pc_text.specs.FirstFault.{is_large, end_fault, at, first_fault, given_by, give_line, line_fault}
 use Rattle.pc_text.specs.Reader.{Holds, given_of}
 use Rattle.pc_text.specs.Crowded.{crowded_line}
 use Rattle.pc_text.proofs.CrowdLemmas.{crowded_more, crowded_all}
