@@ -3,15 +3,16 @@
 
 use pc_io::{StdSink, StdSource};
 use pc_top::{Status, run};
-use std::env;
-use std::io;
 use std::process::ExitCode;
+use std::{env, io};
 
 /// Does the job that the words after the program's name tell, and ends with its status.
 fn main(rt: HostRuntime) -> ExitCode {
     let words = match words_of(&rt) {
         Ok(words) => words,
-        Err(error) if error.kind() == io::ErrorKind::InvalidData => return ExitCode::from(Status::WrongWords.code()),
+        Err(error) if error.kind() == io::ErrorKind::InvalidData => return ExitCode::from(
+            Status::WrongWords.code(),
+        ),
         Err(_) => return ExitCode::from(Status::NoMemory.code()),
     };
     let mut source = StdSource::new(rt.stdin());

@@ -1,5 +1,5 @@
 -- The lines of bytes. A line feed ends a line, and what follows the last line feed is a line if it isn't empty.
-use Rattle.std.specs.Prelude.{◌≡◌, ℕ, ◌-◌, ◌==◌, Bool, false, List, [], ◌∷◌, ◌++◌, length, take, drop, min, nat_lt, if◌then◌else◌}
+use Rattle.std.specs.Prelude.{◌≡◌, ℕ, ◌==◌, Bool, false, List, [], ◌∷◌, ◌++◌, length, take, drop, nat_lt, if◌then◌else◌}
 use Rattle.std.specs.List.{list_any, onto_first}
 
 -- a byte is a line feed

@@ -1,6 +1,6 @@
 -- What an answer to a text means, and what it leaves.
-use Rattle.std.proofs.Common.{◌≡◌, ℕ, ◌<◌, ◌≤◌, nat_eq, nat_lt, cond, Bool, true, false, List, [], length, Option, Some, None, refl, subst, sym, ap, inl, inr, ◌∷◌, arith}
-use Rattle.std.specs.Prelude.{◌⊎◌, Result, Ok, Err, IfOk}
+use Rattle.std.proofs.Common.{◌≡◌, ℕ, ◌≤◌, nat_eq, cond, Bool, true, false, List, [], length, refl, subst, sym, inr, ◌∷◌, arith}
+use Rattle.std.specs.Prelude.{Result, Ok, Err, IfOk}
 use Rattle.std.proofs.lemmas.Bool.Decides.{nat_tests}
 use Rattle.pc_file.specs.Limits.{Contents}
 use Rattle.pc_file.specs.Products.{products, words_of}
@@ -8,10 +8,10 @@ use Rattle.pc_text.specs.Spells.{Spells}
 use Rattle.pc_top.specs.declared.list_reply.Reply.{Reply}
 use Rattle.pc_top.specs.declared.status.Status.{Status}
 use Rattle.pc_top.specs.declared.status.Status.TheVariants.{Done, WrongWords, Refused, ReadFault, WriteFault, NoMemory, TooLong}
-use Rattle.pc_top.specs.ListOutcome.{Ends, ReadsAll, AnswersText, Leaves}
-use Rattle.pc_top.specs.ListReply.{Output, list_reply, listed, listing_reply, refused_no_product}
+use Rattle.pc_top.specs.ListOutcome.{Ends, AnswersText, Leaves}
+use Rattle.pc_top.specs.ListReply.{list_reply, listed, listing_reply, refused_no_product}
 use Rattle.pc_top.specs.Reply.{Is}
-use Rattle.pc_top.specs.Means.{Means, IsListed, HasNoProduct}
+use Rattle.pc_top.specs.Means.{Means}
 
 is_empty : (words : List (List ℕ)) → length words ≡ 0 → words ≡ []
 is_empty [] none = refl
@@ -27,7 +27,8 @@ by_count text file false spells few is = record {
   spells = spells;
   few_words = few;
   some_product = grind (arith, nat_tests);
-  writes = refl }
+  writes = refl;
+}
 
 means_file : (text : List ℕ) (file : Contents) → Spells text file → words_of file ≤ 65536 →
     Means (listed file (products file)).status text (listed file (products file)).text
@@ -38,7 +39,7 @@ pub means_listed : {E : Type 0} (text : List ℕ) (file : Contents) (result : Re
     IfOk result (λ reply. Is reply (listed file (products file))) → IfOk result (λ reply. Means reply.status text reply.text)
 means_listed text file (Ok reply) spells few is =
     subst (λ s. Means s text reply.text) (sym is.status)
-      (subst (λ t. Means (listed file (products file)).status text t) (sym is.text) (means_file text file spells few))
+    (subst (λ t. Means (listed file (products file)).status text t) (sym is.text) (means_file text file spells few))
 means_listed text file (Err fault) spells few is = tt
 
 leaves_by : (status : Status) (text : List ℕ) (written : List ℕ) (before after : Ends) → Means status text written → AnswersText status before after → Leaves status before after

@@ -1,5 +1,5 @@
 -- What `list` leaves, by its status.
-use Rattle.std.specs.Prelude.{◌≡◌, ℕ, Bool, true, false, List, Option, Some, None, IsSome, IfSome, ◌⊎◌}
+use Rattle.std.specs.Prelude.{◌≡◌, ℕ, Bool, true, false, List, Option, Some, None, IsSome, IfSome}
 use Rattle.std.specs.Io.KnownBytes.{IsAtEnd, append_known, prepend_known}
 use Rattle.pc_base.specs.Rose.{Rose}
 use Rattle.pc_io.specs.Limits.{broken_limit}
@@ -9,7 +9,7 @@ use Rattle.pc_top.specs.declared.status.Status.{Status}
 use Rattle.pc_top.specs.declared.status.Status.TheVariants.{Done, WrongWords, Refused, ReadFault, WriteFault, NoMemory, TooLong}
 use Rattle.pc_top.specs.Means.{Means}
 use Rattle.pc_top.specs.Status.{code}
-use Rattle.pc_top.specs.ListReply.{Output, list_reply}
+use Rattle.pc_top.specs.ListReply.{list_reply}
 
 -- the limit that a product text breaks: 65,536 bytes a line, 1,048,576 in all
 abbrev pub broken : List ℕ → Option LineFault
