@@ -9,6 +9,10 @@ use std::test::Fail;
 /// A text with one cost and one variable of one value.
 const TINY: &[u8] = b"product 1\ncost price\nvariable kind\nvalue only 7\nend\n";
 
+/// Three frames, two wheels, and a light or none.
+const BIKE: &[u8] =
+    b"product 1\ncost price\ncost days\nvariable frame\nvalue steel 300 2\nvalue alloy 500 1\nvalue carbon 900 5\nvariable wheel\nvalue w26 80 1\nvalue w28 120 1\nvariable light\nvalue none 0 0\nvalue led 40 1\nrule frame=carbon => wheel=w28\nrule not (frame=steel and light=led)\nend\n";
+
 /// What `run` leaves: the exit status and what was written.
 #[derive(Drop)]
 struct Ran {
@@ -78,12 +82,12 @@ fn a_text_of_one_value_has_one_product(rt: HostRuntime) -> Result<(), Fail> {
 #[test]
 fn the_first_of_equal_products_is_listed(rt: HostRuntime) -> Result<(), Fail> {
     let text =
-        b"product 1\ncost price\nvariable a\nvalue x 1\nvalue y 1\nvariable b\nvalue x 1\nvalue y 1\nrule a=x => b=y\nend";
+        b"product 1\ncost price\nvariable x\nvalue a 1\nvalue b 1\nvariable y\nvalue p 0\nvalue q 0\nend";
     let ran = list_of(rt.alloc(), text)?;
     assert_eq!(rt; ran.status, 0);
     assert_eq!(rt;
         ran.written.as_slice(),
-        b"var a\nval x 2 0 : x y\nval y 2 0 : y x\nvar b\nval x 2 0 : y x\nval y 2 0 : x y\n.\n".as_slice()
+        b"var x\nval a 1 0 : a p\nval b 1 0 : b p\nvar y\nval p 1 0 : a p\nval q 1 0 : a q\n.\n".as_slice()
     );
     Ok(())
 }
@@ -101,7 +105,10 @@ fn refusals_name_line_and_kind(rt: HostRuntime) -> Result<(), Fail> {
             b"rule kind!=only and kind=other\n",
             b"refused text 5 unknown\n",
         ),
-        (b"rule kind!=only\n", b"refused no-product\n"),
+        (
+            b"rule kind=only\nrule not kind=only\n",
+            b"refused no-product\n",
+        ),
     ];
     for (lines, answer) in refusals.iter() {
         let ran = list_of(alloc, tiny_with(alloc, lines)?.as_slice())?;
@@ -196,9 +203,12 @@ fn ends_that_fail_are_told(rt: HostRuntime) -> Result<(), Fail> {
     let unwritten = run_with(alloc, b"list", TINY, AMPLE, &[], &[0])?;
     assert_eq!(rt; unwritten.status, 5);
     assert_eq!(rt; unwritten.written.len(), 0);
-    let cut = run_with(alloc, b"list", TINY, 10, &[], &[])?;
+    let cut = run_with(alloc, b"list", BIKE, 40, &[], &[])?;
     assert_eq!(rt; cut.status, 5);
-    assert_eq!(rt; cut.written.as_slice(), b"var kind\nv".as_slice());
+    assert_eq!(rt;
+        cut.written.as_slice(),
+        b"var frame\nval steel 380 3 : steel w26 no".as_slice()
+    );
     Ok(())
 }
 
