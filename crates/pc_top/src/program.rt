@@ -4,6 +4,7 @@ ghost use Rattle.std.specs.Prelude.{◌≡◌, ◌≤◌, ◌⊎◌, ◌<◌, �
 ghost use Rattle.std.specs.Io.KnownBytes.{append_known};
 ghost use Rattle.pc_base.specs.Rose.{Rose};
 ghost use Rattle.pc_top.specs.ListOutcome.{Ends, Answers, StopsShort, broken, status_by_text};
+ghost use Rattle.pc_top.specs.declared.status.Status.{Status};
 ghost use Rattle.pc_top.specs.Status.{code};
 ghost use Rattle.pc_top.specs.Words.{is_list};
 
@@ -21,6 +22,8 @@ pub fn run<S: Source, K: Sink>(
     source: &mut S,
     sink: &mut K,
 ) -> u8
+    ensures known { (status : Status) × (result ≡ code status) }
+
     // 2: exactly where the words have no form; nothing is read or written.
     ensures wrong_words { is_list (map (λ word. word.items) words.now.items) ≡ false → result ≡ 2 }
     ensures right_words { result ≡ 2 → is_list (map (λ word. word.items) words.now.items) ≡ false }
