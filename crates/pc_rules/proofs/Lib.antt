@@ -6,6 +6,7 @@ pub mod Levels
 pub mod OutcomeLemmas
 pub mod PhraseFolds
 pub mod PhraseLemmas
+pub mod PrintedForms
 pub mod Positions
 pub mod Readers
 pub mod RuleFolds

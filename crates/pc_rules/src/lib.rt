@@ -17,11 +17,13 @@ mod phrase;
 mod rule_text;
 mod token;
 mod words;
+mod writer;
 
 pub use fault::RuleFault;
 pub use kind::Kind;
 pub use laws::tokens_tell_phrase;
 pub use rule_text::read_rule;
+pub use writer::push_rule;
 
 #[cfg(test)]
 mod tests;

@@ -5,6 +5,7 @@ pub mod LineLemmas
 pub mod LineWordLemmas
 pub mod Meanings
 pub mod NoFaultIsSpelled
+pub mod PrintedLines
 pub mod ReadLemmas
 pub mod SignificantLines
 pub mod SoundText

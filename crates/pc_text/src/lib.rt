@@ -11,10 +11,12 @@ mod reading;
 mod statement;
 mod text;
 mod text_fault;
+mod writer;
 
 pub use pc_rules::Kind;
 pub use text::{crowded_line, read_file};
 pub use text_fault::TextFault;
+pub use writer::write_file;
 
 #[cfg(test)]
 mod tests;

@@ -1,0 +1,297 @@
+//! The printed form of a rule.
+
+ghost use Rattle.std.specs.Prelude.{◌≡◌, ◌++◌, [], ◌∷◌, nat_lt, List, codes, decimal, OnOk};
+ghost use Rattle.std.specs.List.{flat_map, join_by, zip};
+ghost use Rattle.pc_file.specs.declared.variable.Variable.{Variable};
+ghost use Rattle.pc_file.specs.declared.rule.Rule.TheOpen.{OneOf, Same, Table};
+ghost use Rattle.pc_file.specs.PrintedRule.{printed_variable, printed_value, printed_row, text_of, printing, printed_in_place, printed_rule};
+
+use pc_base::{NoMemory, Sequence, Text};
+use pc_file::{Rule, Variable};
+
+/// Puts the printed form of a rule at the end of a text, with the names of the variables and values that it is of.
+/// Want of memory may leave a part of it in the text.
+#[cycle(writing)]
+pub fn push_rule(text: &mut Text, variables: &[Variable], rule: &Rule) -> Result<(), NoMemory>
+    ensures { OnOk result (text.new ≡ text.old ++ printed_rule variables.now rule.now) }
+{
+    match rule {
+        Rule::Is { variable, value } => push_comparison(text, variables, *variable, b"=", *value),
+        Rule::IsNot { variable, value } => {
+            push_comparison(text, variables, *variable, b"!=", *value)
+        }
+        Rule::OneOf { variable, values } => {
+            push_one_of(text, variables, *variable, values.as_slice())
+        }
+        Rule::Not(inner) => {
+            text.extend_from_slice(b"not ")?;
+            push_in_place(text, variables, 4, inner.get())
+        }
+        Rule::And(members) => push_members(text, variables, 3, b" and ", members.as_slice()),
+        Rule::Or(members) => push_members(text, variables, 2, b" or ", members.as_slice()),
+        Rule::Implies(premise, consequence) => {
+            push_in_place(text, variables, 1, premise.get())?;
+            text.extend_from_slice(b" => ")?;
+            push_in_place(text, variables, 1, consequence.get())
+        }
+        Rule::Same(first, second) => push_same(text, variables, *first, *second),
+        Rule::AtMost { most, members } => {
+            push_at_most(text, variables, *most, members.as_slice())
+        }
+        Rule::Table {
+            variables: these,
+            rows,
+        } => push_table(text, variables, these.as_slice(), rows.as_slice()),
+    }
+}
+
+/// The rule in a place that asks for a strength.
+#[cycle(writing)]
+fn push_in_place(
+    text: &mut Text,
+    variables: &[Variable],
+    asked: u8,
+    rule: &Rule,
+) -> Result<(), NoMemory>
+    ensures { OnOk result (text.new ≡ text.old ++ printed_in_place asked variables.now rule.now) }
+{
+    if !binds_less(rule, asked) {
+        return push_rule(text, variables, rule);
+    }
+    text.extend_from_slice(b"(")?;
+    push_rule(text, variables, rule)?;
+    text.extend_from_slice(b")")
+}
+
+/// Members in places of one kind, with something between them.
+#[cycle(writing)]
+fn push_members(
+    text: &mut Text,
+    variables: &[Variable],
+    asked: u8,
+    between: &[u8],
+    members: &[Rule],
+) -> Result<(), NoMemory>
+    ensures { OnOk result (text.new ≡ text.old ++ join_by (printed_in_place asked variables.now) between.now members.now) }
+{
+    let Some((first, others)) = members.split_first() else {
+        return Ok(());
+    };
+    push_in_place(text, variables, asked, first)?;
+    for member in others {
+        text.extend_from_slice(between)?;
+        push_in_place(text, variables, asked, member)?;
+    }
+    Ok(())
+}
+
+#[cycle(writing)]
+fn push_at_most(
+    text: &mut Text,
+    variables: &[Variable],
+    most: u32,
+    members: &[Rule],
+) -> Result<(), NoMemory>
+    ensures { OnOk result (text.new ≡ text.old
+        ++ (codes "atmost " ++ decimal most ++ codes " (" ++ join_by (printed_in_place 0 variables.now) (codes ", ") members.now ++ codes ")")) }
+{
+    text.extend_from_slice(b"atmost ")?;
+    text.push_unsigned(u64::from(most))?;
+    text.extend_from_slice(b" (")?;
+    push_members(text, variables, 0, b", ", members)?;
+    text.extend_from_slice(b")")
+}
+
+/// Whether a rule binds less than a place asks for, so that it stands there in parentheses.
+fn binds_less(rule: &Rule, asked: u8) -> bool
+    ensures { (variables : List Variable) → result ≡ nat_lt (printing variables rule.now).strength asked }
+{
+    match rule {
+        Rule::Implies(..) => 0 < asked,
+        Rule::Or(_) => 1 < asked,
+        Rule::And(_) => 2 < asked,
+        Rule::Not(_) => 3 < asked,
+        Rule::Is { .. } => 4 < asked,
+        Rule::IsNot { .. } => 4 < asked,
+        Rule::OneOf { .. } => 4 < asked,
+        Rule::Same(..) => 4 < asked,
+        Rule::AtMost { .. } => 4 < asked,
+        Rule::Table { .. } => 4 < asked,
+    }
+}
+
+fn push_comparison(
+    text: &mut Text,
+    variables: &[Variable],
+    variable: u32,
+    sign: &[u8],
+    value: u32,
+) -> Result<(), NoMemory>
+    ensures { OnOk result (text.new ≡ text.old ++ (printed_variable variables.now variable ++ sign.now ++ printed_value variables.now variable value)) }
+{
+    push_variable(text, variables, variable)?;
+    text.extend_from_slice(sign)?;
+    push_value(text, variables, variable, value)
+}
+
+fn push_one_of(
+    text: &mut Text,
+    variables: &[Variable],
+    variable: u32,
+    values: &[u32],
+) -> Result<(), NoMemory>
+    ensures { OnOk result (text.new ≡ text.old ++ text_of variables.now (OneOf variable values.now)) }
+{
+    push_variable(text, variables, variable)?;
+    text.extend_from_slice(b" in {")?;
+    push_values(text, variables, variable, values)?;
+    text.extend_from_slice(b"}")
+}
+
+fn push_same(
+    text: &mut Text,
+    variables: &[Variable],
+    first: u32,
+    second: u32,
+) -> Result<(), NoMemory>
+    ensures { OnOk result (text.new ≡ text.old ++ text_of variables.now (Same first second)) }
+{
+    text.extend_from_slice(b"same(")?;
+    push_variable(text, variables, first)?;
+    text.extend_from_slice(b", ")?;
+    push_variable(text, variables, second)?;
+    text.extend_from_slice(b")")
+}
+
+fn push_table(
+    text: &mut Text,
+    variables: &[Variable],
+    these: &[u32],
+    rows: &[Sequence<u32>],
+) -> Result<(), NoMemory>
+    ensures { OnOk result (text.new ≡ text.old ++ text_of variables.now (Table these.now rows.now)) }
+{
+    text.extend_from_slice(b"table (")?;
+    push_variables(text, variables, these)?;
+    text.extend_from_slice(b") {")?;
+    push_rows(text, variables, these, rows)?;
+    text.extend_from_slice(b"}")
+}
+
+/// The names of variables, with a comma and a space between them.
+fn push_variables(text: &mut Text, variables: &[Variable], these: &[u32]) -> Result<(), NoMemory>
+    ensures { OnOk result (text.new ≡ text.old ++ join_by (printed_variable variables.now) (codes ", ") these.now) }
+{
+    let Some((first, others)) = these.split_first() else {
+        return Ok(());
+    };
+    push_variable(text, variables, *first)?;
+    for variable in others {
+        text.extend_from_slice(b", ")?;
+        push_variable(text, variables, *variable)?;
+    }
+    Ok(())
+}
+
+/// The names of values of one variable, with a comma and a space between them.
+fn push_values(
+    text: &mut Text,
+    variables: &[Variable],
+    variable: u32,
+    values: &[u32],
+) -> Result<(), NoMemory>
+    ensures { OnOk result (text.new ≡ text.old ++ join_by (printed_value variables.now variable) (codes ", ") values.now) }
+{
+    let Some((first, others)) = values.split_first() else {
+        return Ok(());
+    };
+    push_value(text, variables, variable, *first)?;
+    for value in others {
+        text.extend_from_slice(b", ")?;
+        push_value(text, variables, variable, *value)?;
+    }
+    Ok(())
+}
+
+/// The rows of a table, with a comma and a space between them.
+fn push_rows(
+    text: &mut Text,
+    variables: &[Variable],
+    these: &[u32],
+    rows: &[Sequence<u32>],
+) -> Result<(), NoMemory>
+    ensures { OnOk result (text.new ≡ text.old ++ join_by (printed_row variables.now these.now) (codes ", ") rows.now) }
+{
+    let Some((first, others)) = rows.split_first() else {
+        return Ok(());
+    };
+    push_row(text, variables, these, first.as_slice())?;
+    for row in others {
+        text.extend_from_slice(b", ")?;
+        push_row(text, variables, these, row.as_slice())?;
+    }
+    Ok(())
+}
+
+/// A row of a table: the names of values, each of its own variable, with a space between them.
+fn push_row(
+    text: &mut Text,
+    variables: &[Variable],
+    these: &[u32],
+    row: &[u32],
+) -> Result<(), NoMemory>
+    ensures { OnOk result (text.new ≡ text.old ++ printed_row variables.now these.now row.now) }
+{
+    let Some((variable, these)) = these.split_first() else {
+        return Ok(());
+    };
+    let Some((value, row)) = row.split_first() else {
+        return Ok(());
+    };
+    push_value(text, variables, *variable, *value)?;
+    push_more_of_row(text, variables, these, row)
+}
+
+/// The values of a row after the first, each after a space.
+fn push_more_of_row(
+    text: &mut Text,
+    variables: &[Variable],
+    these: &[u32],
+    row: &[u32],
+) -> Result<(), NoMemory>
+    ensures { OnOk result (text.new ≡ text.old ++ flat_map (λ p. codes " " ++ printed_value variables.now p.0 p.1) (zip these.now row.now)) }
+{
+    for (variable, value) in these.iter().zip(row) {
+        text.push(b' ')?;
+        push_value(text, variables, *variable, *value)?;
+    }
+    Ok(())
+}
+
+/// The name of a variable, by its position.
+fn push_variable(text: &mut Text, variables: &[Variable], variable: u32) -> Result<(), NoMemory>
+    ensures { OnOk result (text.new ≡ text.old ++ printed_variable variables.now variable) }
+{
+    match variables.get(variable as usize) {
+        Some(variable) => text.extend_from_slice(variable.name.as_bytes()),
+        None => Ok(()),
+    }
+}
+
+/// The name of a value of a variable, by their positions.
+fn push_value(
+    text: &mut Text,
+    variables: &[Variable],
+    variable: u32,
+    value: u32,
+) -> Result<(), NoMemory>
+    ensures { OnOk result (text.new ≡ text.old ++ printed_value variables.now variable value) }
+{
+    let Some(variable) = variables.get(variable as usize) else {
+        return Ok(());
+    };
+    match variable.values.get(value as usize) {
+        Some(value) => text.extend_from_slice(value.name.as_bytes()),
+        None => Ok(()),
+    }
+}

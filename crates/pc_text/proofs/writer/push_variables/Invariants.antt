@@ -1,0 +1,7 @@
+use Rattle.std.proofs.Common.{◌≡◌, ◌++◌, take}
+use Rattle.std.specs.List.{flat_map}
+use Rattle.pc_file.specs.PrintedForm.{cost_line, rule_line, value_line, variable_line, with_feed}
+use Rattle.pc_text.proofs.writer.push_variables.Given as goal
+
+abbrev pub invariant-loop-variable : goal.invariant-loop-variable
+invariant-loop-variable l = l.text ≡ l.initial.text ++ flat_map (λ variable. with_feed (variable_line variable.name) ++ flat_map (λ value. with_feed (value_line l.costs value)) variable.values) (take l.variable-index l.variables)
