@@ -1,5 +1,6 @@
 -- The number that a word spells.
 use Rattle.std.proofs.Common.{◌≡◌, ℕ, zero, suc, ◌+◌, ◌<◌, ◌≤◌, ◌^◌, ℤ, pos, negsuc, FitsSigned, w64, cond, Bool, true, false, nat_le, List, length, Option, Some, None, decimal, position, slice_get, refl, sym, ap, ◌∙◌, arith}
+use Rattle.std.specs.List.{list_all}
 use Rattle.std.specs.Option.{unwrap_or}
 use Rattle.std.specs.Fmt.{signed_decimal}
 use Rattle.std.proofs.lemmas.Fmt.{decimal_injective, signed_decimal_injective}
@@ -12,6 +13,7 @@ use Rattle.pc_names.proofs.Places.{first_place_of_name}
 use Rattle.pc_file.specs.Spelling.{same_spelling}
 use Rattle.pc_names.proofs.NumberText.{small}
 use Rattle.pc_rules.specs.Counts.{spellings, count_of, small_number}
+use Rattle.pc_rules.proofs.ListPlaces.{all_at}
 
 spellings-at : (count first k : ℕ) → k < count → slice_get (spellings count first) k ≡ Some (decimal (first + k))
 spellings-at zero first k below = absurd (omega arith)
@@ -99,3 +101,7 @@ module _ (word : List ℕ) where
 
       fits_small : (m : ℕ) → m ≤ 64 → FitsSigned w64 (pos m)
       fits_small m below = record { sfits = omega arith }
+
+-- a test that all such spellings pass
+pub small_passes : (test : List ℕ → Bool) (n : ℕ) → list_all test (spellings 65 0) ≡ true → n ≤ 64 → test (decimal n) ≡ true
+small_passes test n all small = all_at test (spellings 65 0) n (decimal n) all (spelled_at (decimal n) n small refl)

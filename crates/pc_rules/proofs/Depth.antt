@@ -136,6 +136,6 @@ mutual
       let j = closes-append (vs ++ Mark Close ∷ Mark OpenBrace ∷ rs) (Mark CloseBrace ∷ []) in
       omega (arith, e, f, g, h, i, j)
 
-  balanced_each : {place : ℕ} {ps : List Phrase} {texts : List (List Token)} → SpellsEach place ps texts → (between : Token) → one_if_open between ≡ one_if_closed between → opens (parted between texts) ≡ closes (parted between texts)
+  pub balanced_each : {place : ℕ} {ps : List Phrase} {texts : List (List Token)} → SpellsEach place ps texts → (between : Token) → one_if_open between ≡ one_if_closed between → opens (parted between texts) ≡ closes (parted between texts)
   balanced_each (grammar.none place) between apart = refl
   balanced_each (grammar.more {text = text} {texts = texts} s each) between apart = parted-balanced between text texts apart (balanced s) (balanced_each each between apart)

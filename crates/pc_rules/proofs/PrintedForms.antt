@@ -12,7 +12,7 @@ flat_map-map : {X Y A : Type 0} (f : Y → List A) (g : X → Y) (xs : List X) �
 flat_map-map f g [] = refl
 flat_map-map f g (x ∷ xs) = ap (λ l. f (g x) ++ l) (flat_map-map f g xs)
 
-join_by-map : {X Y A : Type 0} (f : Y → List A) (sep : List A) (g : X → Y) (xs : List X) → join_by f sep (map g xs) ≡ join_by (λ x. f (g x)) sep xs
+pub join_by-map : {X Y A : Type 0} (f : Y → List A) (sep : List A) (g : X → Y) (xs : List X) → join_by f sep (map g xs) ≡ join_by (λ x. f (g x)) sep xs
 join_by-map f sep g [] = refl
 join_by-map f sep g (x ∷ xs) = ap (λ l. f (g x) ++ l) (flat_map-map (λ y. sep ++ f y) g xs)
 

@@ -1,12 +1,32 @@
-//! A law of the grammar of rules.
+//! Laws of the grammar of rules and of their printed form.
 
-ghost use Rattle.std.specs.Prelude.{◌≡◌, List};
+ghost use Rattle.std.specs.Prelude.{◌≡◌, true, ◌∷◌, List};
+ghost use Rattle.pc_file.specs.declared.catalogue.Catalogue.{Catalogue};
+ghost use Rattle.pc_file.specs.declared.rule.Rule.{Rule};
+ghost use Rattle.pc_file.specs.declared.variable.Variable.{Variable};
+ghost use Rattle.pc_file.specs.Limits.{is_rule};
+ghost use Rattle.pc_file.specs.PrintedRule.{printed_rule};
 ghost use Rattle.pc_rules.specs.declared.phrase.Phrase.{Phrase};
 ghost use Rattle.pc_rules.specs.declared.token.Token.{Token};
 ghost use Rattle.pc_rules.specs.Grammar.{Spells};
+ghost use Rattle.pc_rules.specs.Nameable.{Nameable};
+ghost use Rattle.pc_rules.specs.Naming.{HoldsNames};
+ghost use Rattle.pc_rules.specs.RuleText.{IsRuleText};
 
 /// No tokens spell two phrases.
 #[tactic(auto, using(crate::proofs::GrammarComplete::one_spelling))]
 pub fn tokens_tell_phrase()
     ensures { (tokens : List Token) (p q : Phrase) → Spells 0 p tokens → Spells 0 q tokens → p ≡ q }
+{}
+
+/// The printed form of a rule spells that rule, by itself and after a space. So no other rule has it.
+#[tactic(auto, using(crate::proofs::PrintedRuleText::printed_rule_spells, crate::proofs::PrintedRuleText::spaced_rule_spells, crate::proofs::PrintedRuleText::printed_once))]
+pub fn printed_rule_spells_rule()
+    ensures alone { (names : Catalogue) (variables : List Variable) → HoldsNames names variables → Nameable variables
+        → (rule : Rule) → is_rule variables rule ≡ true → IsRuleText names (printed_rule variables rule) rule }
+    ensures spaced { (names : Catalogue) (variables : List Variable) → HoldsNames names variables → Nameable variables
+        → (rule : Rule) → is_rule variables rule ≡ true → IsRuleText names (32 ∷ printed_rule variables rule) rule }
+    ensures once { (variables : List Variable) → Nameable variables
+        → (rule other : Rule) → is_rule variables rule ≡ true → is_rule variables other ≡ true
+        → printed_rule variables rule ≡ printed_rule variables other → rule ≡ other }
 {}

@@ -21,7 +21,7 @@ mod writer;
 
 pub use fault::RuleFault;
 pub use kind::Kind;
-pub use laws::tokens_tell_phrase;
+pub use laws::{printed_rule_spells_rule, tokens_tell_phrase};
 pub use rule_text::read_rule;
 pub use writer::push_rule;
 
