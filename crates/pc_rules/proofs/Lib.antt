@@ -8,6 +8,7 @@ pub mod OutcomeLemmas
 pub mod PhraseFolds
 pub mod PhraseLemmas
 pub mod PrintedDepth
+pub mod PrintedFeeds
 pub mod PrintedForms
 pub mod PrintedNames
 pub mod PrintedOnce

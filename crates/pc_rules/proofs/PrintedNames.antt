@@ -18,7 +18,7 @@ use Rattle.pc_file.specs.Limits.{is_reserved, is_sized, has_variable, has_value,
 use Rattle.pc_file.specs.PrintedRule.{printed_variable, printed_value}
 use Rattle.pc_rules.specs.Outcome.{Outcome, ◌>>=◌}
 use Rattle.pc_rules.specs.Naming.{position_or_unknown, variable_at, value_at, all_ok, variables_at, values_at, row_at, rows_at, HoldsNames}
-use Rattle.pc_rules.specs.Nameable.{has_names, is_free, Nameable}
+use Rattle.pc_rules.specs.Nameable.{is_named, is_free, Nameable}
 use Rattle.pc_rules.proofs.ListPlaces.{nowhere, at_place, all_at}
 
 any_at : (test : List ℕ → Bool) (xs : List (List ℕ)) (n : ℕ) (x : List ℕ) → slice_get xs n ≡ Some x → test x ≡ true → list_any test xs ≡ true
@@ -78,7 +78,7 @@ module _ (names : Catalogue) (variables : List Variable) (holds : HoldsNames nam
   pub variable-named : (v : ℕ) → has_variable variables v ≡ true → is_name (printed_variable variables v) ≡ true
   variable-named v has =
       let f = found v has in
-      ap is_name (printed_variable-is v f.variable f.at) ∙ (and_parts (is_name f.variable.name) (list_all is_name (value_names f.variable)) (all_at has_names variables v f.variable are.each_named f.at)).0
+      ap is_name (printed_variable-is v f.variable f.at) ∙ (and_parts (is_name f.variable.name) (list_all is_name (value_names f.variable)) (all_at is_named variables v f.variable are.each_named f.at)).0
 
   pub variable-free : (v : ℕ) → has_variable variables v ≡ true → is_reserved (printed_variable variables v) ≡ false
   variable-free v has =
@@ -92,7 +92,7 @@ module _ (names : Catalogue) (variables : List Variable) (holds : HoldsNames nam
       let name = f.variable.name in
       let at : slice_get (variable_names variables) v ≡ Some name = slice_get-map (λ (x : Variable). x.name) variables v ∙ ap (option_map (λ (x : Variable). x.name)) f.at in
       let place : variable_position names name ≡ Some v = ap (position (same_spelling name)) holds.of_variables ∙ own_position (variable_names variables) v name all_names_differ at in
-      let named : is_name name ≡ true = (and_parts (is_name name) (list_all is_name (value_names f.variable)) (all_at has_names variables v f.variable are.each_named f.at)).0 in
+      let named : is_name name ≡ true = (and_parts (is_name name) (list_all is_name (value_names f.variable)) (all_at is_named variables v f.variable are.each_named f.at)).0 in
       ap (variable_at names) (printed_variable-is v f.variable f.at) ∙ rw named (position-ok (variable_position names name) v place f.below)
 
   -- a value by its position
@@ -131,7 +131,7 @@ module _ (names : Catalogue) (variables : List Variable) (holds : HoldsNames nam
 
   found-named : (v a : ℕ) (f : FoundValue v a) → is_name f.value.name ≡ true
   found-named v a f =
-      let each = (and_parts (is_name f.variable.name) (list_all is_name (value_names f.variable)) (all_at has_names variables v f.variable are.each_named f.at)).1 in
+      let each = (and_parts (is_name f.variable.name) (list_all is_name (value_names f.variable)) (all_at is_named variables v f.variable are.each_named f.at)).1 in
       all_at is_name (value_names f.variable) a f.value.name each (name_at v a f)
 
   pub value-named : (v a : ℕ) → has_value variables v a ≡ true → is_name (printed_value variables v a) ≡ true

@@ -1,7 +1,6 @@
 -- The printed form of a rule is cut into tokens that spell it, and the rule that they name is that one.
 use Rattle.std.proofs.Common.{◌≡◌, ℕ, suc, ◌+◌, ◌≤◌, nat_lt, nat_le, Bool, true, false, not, ◌&&◌, cond, List, [], ◌∷◌, ◌++◌, codes, decimal, length, map, Ok, refl, sym, ap, subst, ◌∙◌, append_assoc, arith}
 use Rattle.std.specs.Prelude.{◌==◌, is_some, max}
-use Rattle.std.specs.Fmt.{digits}
 use Rattle.std.specs.List.{list_all, list_any, join_by, zip, AllZip}
 use Rattle.std.specs.Option.{unwrap_or}
 use Rattle.std.proofs.lemmas.List.{length-map}
@@ -24,7 +23,7 @@ use Rattle.pc_rules.specs.declared.token.Sign.TheVariants.{Arrow, NotEqual, Equa
 use Rattle.pc_rules.specs.declared.token.Token.{Token}
 use Rattle.pc_rules.specs.declared.token.Token.TheVariants.{Mark, Word}
 use Rattle.pc_rules.specs.Outcome.{Outcome, ◌>>=◌}
-use Rattle.pc_rules.specs.Counts.{spellings, count_of}
+use Rattle.pc_rules.specs.Counts.{count_of}
 use Rattle.pc_rules.specs.Token.{is_deep_after}
 use Rattle.pc_rules.specs.RuleFaults.{fault_step, test_of, has_fault}
 use Rattle.pc_rules.specs.Naming.{variable_at, value_at, values_at, rows_at, all_ok, named_step, rule_named, HoldsNames}
@@ -32,21 +31,16 @@ use Rattle.pc_rules.specs.Reading.{are_as_long}
 use Rattle.pc_rules.specs.Nameable.{Nameable}
 use Rattle.pc_rules.specs.Grammar.{parted, alone_word, Spells, SpellsEach}
 use Rattle.pc_rules.specs.Grammar as grammar
-use Rattle.pc_rules.proofs.CountLemmas.{count_of_spelled, small_passes}
+use Rattle.pc_rules.proofs.CountLemmas.{count_of_spelled}
 use Rattle.pc_rules.proofs.Depth.{balanced, balanced_each}
 use Rattle.pc_rules.proofs.PhraseLemmas.{has_fault-And, has_fault-Or, has_fault-AtMost, rule_named-And, rule_named-Or, rule_named-AtMost}
 use Rattle.pc_rules.proofs.PhraseFolds as of_phrase
 use Rattle.pc_rules.proofs.RuleFolds as of_rule
 use Rattle.pc_rules.proofs.PrintedForms.{join_by-map}
-use Rattle.pc_rules.proofs.PrintedTokens.{Cuts, CutsAlways, Ends, is_word, cuts-always, always-cuts, cuts-always-cuts, cuts-cuts, cuts-word, cuts-words, cuts-spaced, cuts-joined, cuts-equal, cuts-not_equal, cuts-and, cuts-or, cuts-arrow, cuts-not, cuts-comma, cuts-open, cuts-close, cuts-in, cuts-close_brace, cuts-same, cuts-at_most, cuts-members, cuts-table, cuts-rows, name-word, names-words}
+use Rattle.pc_rules.proofs.PrintedTokens.{Cuts, CutsAlways, Ends, is_word, cuts-always, always-cuts, cuts-always-cuts, cuts-cuts, cuts-word, cuts-words, cuts-spaced, cuts-joined, cuts-equal, cuts-not_equal, cuts-and, cuts-or, cuts-arrow, cuts-not, cuts-comma, cuts-open, cuts-close, cuts-in, cuts-close_brace, cuts-same, cuts-at_most, cuts-members, cuts-table, cuts-rows, name-word, names-words, number-word}
 use Rattle.pc_rules.proofs.PrintedDepth.{flat-token, flat-parentheses, flat-append, flat-plain, EachFlat, flat-parted, plain-words, plain-rows, plain-balanced}
 use Rattle.pc_rules.proofs.PrintedNames as printed
 use Rattle.pc_rules.proofs.RuleInduction.{EachRule, every_rule}
-
--- the spellings of small numbers are words
-all_words : list_all is_word (spellings 65 0) ≡ true
-unfolding digits
-all_words = refl
 
 module _ (names : Catalogue) (variables : List Variable) (holds : HoldsNames names variables) (are : Nameable variables) where
   -- a text spells a rule in a place, and opens at most so many parentheses at once
@@ -351,9 +345,6 @@ module _ (names : Catalogue) (variables : List Variable) (holds : HoldsNames nam
             flat-append limit first.tokens (Mark Arrow ∷ second.tokens) o c (balanced first.spells) (first.shallow limit o c (omega arith))
             (flat-token limit (Mark Arrow) second.tokens o c refl (omega arith) (second.shallow limit o c (omega arith)));
       })
-
-  number-word : (most : ℕ) → most ≤ 64 → is_word (decimal most) ≡ true
-  number-word most small = small_passes is_word most all_words small
 
   -- the number and the members have no fault
   no_fault_here : (fault : AtMostFault) (most : ℕ) (count : ℕ) → most ≤ 64 → count ≤ 64 → test_of fault (decimal most) count ≡ false

@@ -1,5 +1,6 @@
 -- Texts that are cut into tokens, whatever comes after them.
-use Rattle.std.proofs.Common.{◌≡◌, ℕ, ◌==◌, nat_le, Bool, true, false, ◌&&◌, List, [], ◌∷◌, ◌++◌, length, slice_index, codes, drop, map, Some, None, Ok, Err, refl, sym, ap, ◌∙◌, append_assoc, arith}
+use Rattle.std.proofs.Common.{◌≡◌, ℕ, ◌≤◌, ◌==◌, nat_le, Bool, true, false, ◌&&◌, List, [], ◌∷◌, ◌++◌, length, slice_index, codes, decimal, drop, map, Some, None, Ok, Err, refl, sym, ap, ◌∙◌, append_assoc, arith}
+use Rattle.std.specs.Fmt.{digits}
 use Rattle.std.specs.List.{list_all, take_while, flat_map, join_by, AllZip}
 use Rattle.std.proofs.lemmas.Bool.{and_parts, and_from}
 use Rattle.std.proofs.lemmas.Bool.Decides.{nat_tests}
@@ -11,7 +12,9 @@ use Rattle.pc_rules.specs.declared.token.Token.{Token}
 use Rattle.pc_rules.specs.declared.token.Token.TheVariants.{Mark, Word}
 use Rattle.pc_rules.specs.Outcome.{Outcome, ◌>>=◌}
 use Rattle.pc_rules.specs.Token.{sign_at, first_token, tokens_after}
+use Rattle.pc_rules.specs.Counts.{spellings}
 use Rattle.pc_rules.specs.Grammar.{parted, alone_word}
+use Rattle.pc_rules.proofs.CountLemmas.{small_passes}
 use Rattle.pc_rules.proofs.TokenLemmas.{tokens_after-first}
 
 -- the tokens before what comes after them
@@ -244,3 +247,11 @@ names-words [] all = refl
 names-words (name ∷ names) all =
     let two = and_parts (is_name name) (list_all is_name names) all in
     and_from (is_word name) (list_all is_word names) (name-word name two.0) (names-words names two.1)
+
+-- the spellings of small numbers are words
+all_words : list_all is_word (spellings 65 0) ≡ true
+unfolding digits
+all_words = refl
+
+pub number-word : (most : ℕ) → most ≤ 64 → is_word (decimal most) ≡ true
+number-word most small = small_passes is_word most all_words small
