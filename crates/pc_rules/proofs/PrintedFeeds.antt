@@ -1,5 +1,5 @@
 -- The printed form of a rule has no line feed.
-use Rattle.std.proofs.Common.{◌≡◌, ℕ, ◌≤◌, ◌==◌, nat_lt, nat_le, Bool, true, false, ◌&&◌, cond, List, [], ◌∷◌, ◌++◌, codes, decimal, length, map, refl, sym, ap, subst, ◌∙◌, arith}
+use Rattle.std.proofs.Common.{◌≡◌, ℕ, ◌≤◌, ◌==◌, nat_lt, nat_le, Bool, true, false, ◌&&◌, cond, List, [], ◌∷◌, ◌++◌, codes, decimal, length, map, refl, sym, ap, ◌∙◌, arith}
 use Rattle.std.specs.List.{list_all, list_any, flat_map, join_by, zip}
 use Rattle.std.proofs.lemmas.Bool.{and_parts, or_from, leb-true}
 use Rattle.std.proofs.lemmas.Bool.Decides.{nat_tests}
@@ -20,7 +20,7 @@ use Rattle.pc_rules.proofs.PrintedForms.{join_by-map, printed-And, printed-Or, p
 use Rattle.pc_rules.proofs.PrintedTokens.{is_word, name-word, names-words, number-word}
 use Rattle.pc_rules.proofs.PrintedNames as printed
 use Rattle.pc_rules.proofs.RuleFolds as of_rule
-use Rattle.pc_rules.proofs.RuleInduction.{EachRule, Forms, every_rule}
+use Rattle.pc_rules.proofs.RuleInduction.{EachRule, every_rule}
 
 no_feed : (byte : ℕ) → is_name_byte byte ≡ true → is_feed byte ≡ false
 no_feed byte in_word = by (byte == 10) refl

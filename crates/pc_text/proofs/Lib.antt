@@ -6,6 +6,8 @@ pub mod LineWordLemmas
 pub mod Meanings
 pub mod NoFaultIsSpelled
 pub mod PrintedLines
+pub mod PrintedSpells
+pub mod PrintedWords
 pub mod ReadLemmas
 pub mod SignificantLines
 pub mod SoundText

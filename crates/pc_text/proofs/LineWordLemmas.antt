@@ -17,19 +17,19 @@ from_word-nil : from_word [] ≡ []
 unfolding from_word
 from_word-nil = refl
 
-words-nil : words [] ≡ []
+pub words-nil : words [] ≡ []
 unfolding words
 words-nil = refl
 
-words-space : (b : ℕ) (bs : List ℕ) → is_space b ≡ true → words (b ∷ bs) ≡ words bs
+pub words-space : (b : ℕ) (bs : List ℕ) → is_space b ≡ true → words (b ∷ bs) ≡ words bs
 unfolding words
 words-space b bs e = rw e refl
 
-words-last : (b : ℕ) (bs : List ℕ) → is_space b ≡ false → goes_on bs ≡ false → words (b ∷ bs) ≡ (b ∷ []) ∷ words bs
+pub words-last : (b : ℕ) (bs : List ℕ) → is_space b ≡ false → goes_on bs ≡ false → words (b ∷ bs) ≡ (b ∷ []) ∷ words bs
 unfolding words
 words-last b bs e f = rw (e, f) refl
 
-words-more : (b : ℕ) (bs : List ℕ) → is_space b ≡ false → goes_on bs ≡ true → words (b ∷ bs) ≡ onto_first b (words bs)
+pub words-more : (b : ℕ) (bs : List ℕ) → is_space b ≡ false → goes_on bs ≡ true → words (b ∷ bs) ≡ onto_first b (words bs)
 unfolding words
 words-more b bs e f = rw (e, f) refl
 

@@ -1,11 +1,17 @@
 -- The lines of a printed form.
-use Rattle.std.proofs.Common.{◌≡◌, ℕ, ◌+◌, ◌<◌, List, [], ◌∷◌, ◌++◌, length, get_or, take, map, codes, refl, sym, ap, ◌∙◌, append_assoc}
-use Rattle.std.specs.List.{flat_map}
+use Rattle.std.proofs.Common.{◌≡◌, ℕ, ◌+◌, ◌<◌, List, [], ◌∷◌, ◌++◌, length, get_or, take, map, Bool, true, ◌&&◌, refl, sym, ap, ◌∙◌, append_assoc}
+use Rattle.std.specs.List.{flat_map, list_all}
 use Rattle.std.proofs.lemmas.List.{append-nil, take_more}
+use Rattle.std.proofs.lemmas.List.Folds.{list_all-map, list_all-append}
+use Rattle.std.proofs.lemmas.Bool.{and_from}
 use Rattle.std.proofs.lemmas.Grind.{flat_map-append}
+use Rattle.pc_names.specs.Name.{is_name}
 use Rattle.pc_file.specs.declared.variable.Variable.{Variable}
 use Rattle.pc_file.specs.Contents.{Contents}
-use Rattle.pc_file.specs.PrintedForm.{header_line, cost_line, variable_line, value_line, rule_line, end_line, variable_lines, printed_lines, with_feed, text_of_lines, printed}
+use Rattle.pc_file.specs.Limits.{value_names}
+use Rattle.pc_rules.specs.Nameable.{is_named}
+use Rattle.pc_text.specs.Printable.{has_names}
+use Rattle.pc_file.specs.PrintedForm.{header_line, cost_line, variable_line, value_line, rule_line, end_line, variable_lines, with_feed, text_of_lines, printed}
 
 flat_map-map : {X Y A : Type 0} (f : Y → List A) (g : X → Y) (xs : List X) → flat_map f (map g xs) ≡ flat_map (λ x. f (g x)) xs
 flat_map-map f g [] = refl
@@ -16,6 +22,11 @@ pub flat_map-more : {X A : Type 0} (f : X → List A) (xs : List X) (n : ℕ) (x
 flat_map-more f xs n x below is =
     ap (flat_map f) (take_more xs n x below) ∙ flat_map-append f (take n xs) (get_or xs n x ∷ [])
     ∙ ap (λ y. flat_map f (take n xs) ++ (f y ++ [])) (sym is) ∙ ap (λ more. flat_map f (take n xs) ++ more) (append-nil (f x))
+
+pub list_all-more : {X : Type 0} (test : X → Bool) (xs : List X) (n : ℕ) (x : X) → n < length xs → x ≡ get_or xs n x → list_all test (take n xs) ≡ true → test x ≡ true → list_all test (take (n + 1) xs) ≡ true
+list_all-more test xs n x below is before here =
+    ap (list_all test) (take_more xs n x below) ∙ list_all-append test (take n xs) (get_or xs n x ∷ [])
+    ∙ and_from (list_all test (take n xs)) (test (get_or xs n x) && true) before (and_from (test (get_or xs n x)) true (ap test (sym is) ∙ here) refl)
 
 -- the text of a variable: its line, and the lines of its values
 abbrev pub variable_text : ℕ → Variable → List ℕ
@@ -52,3 +63,11 @@ printed_parts file =
     ∙ sym (append_assoc head costs (variables ++ (rules ++ last)))
     ∙ sym (append_assoc (head ++ costs) variables (rules ++ last))
     ∙ sym (append_assoc (head ++ costs ++ variables) rules last)
+
+-- a variable whose names were printed has names
+pub named_parts : (variable : Variable) → is_name variable.name ≡ true → list_all (λ value. is_name value.name) variable.values ≡ true → is_named variable ≡ true
+named_parts variable own values = and_from (is_name variable.name) (list_all is_name (value_names variable)) own (list_all-map is_name (λ value. value.name) variable.values ∙ values)
+
+-- and a file whose names were printed
+pub file_named : (file : Contents) → list_all is_name file.costs ≡ true → list_all is_named file.variables ≡ true → has_names file ≡ true
+file_named file costs variables = and_from (list_all is_name file.costs) (list_all is_named file.variables) costs variables

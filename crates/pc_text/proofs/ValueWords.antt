@@ -16,7 +16,7 @@ use Rattle.pc_text.specs.Given.{value_given}
 use Rattle.pc_text.specs.Orders.{keeps_range, is_cost_text}
 use Rattle.pc_text.specs.Statement.{value_words}
 
-cost_fits : (z : ℤ) → is_cost z ≡ true → FitsSigned w64 z
+pub cost_fits : (z : ℤ) → is_cost z ≡ true → FitsSigned w64 z
 cost_fits (pos n) h = record { sfits = grind (arith, ints, nat_tests) }
 cost_fits (negsuc n) h = record { sfits = grind (arith, ints, nat_tests) }
 

@@ -5,6 +5,7 @@ pub mod Given
 pub mod Keyword
 pub mod LineWords
 pub mod Orders
+pub mod Printable
 pub mod Reader
 pub mod Spells
 pub mod Statement

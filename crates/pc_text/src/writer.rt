@@ -1,9 +1,14 @@
 //! The text of a file.
 
-ghost use Rattle.std.specs.Prelude.{◌≡◌, ◌++◌, [], ◌∷◌, codes, take, IfOk, OnOk};
+ghost use Rattle.std.specs.Prelude.{◌≡◌, true, ◌++◌, [], ◌∷◌, codes, take, IfOk, OnOk};
 ghost use Rattle.std.specs.Fmt.{signed_decimal};
-ghost use Rattle.std.specs.List.{flat_map};
+ghost use Rattle.std.specs.List.{flat_map, list_all};
+ghost use Rattle.pc_file.specs.Limits.{IsFile};
 ghost use Rattle.pc_file.specs.PrintedForm.{cost_line, printed, rule_line, value_line, variable_line, with_feed};
+ghost use Rattle.pc_names.specs.Name.{is_name};
+ghost use Rattle.pc_rules.specs.Nameable.{is_named};
+ghost use Rattle.pc_text.specs.Printable.{IsPrintable, has_names};
+ghost use Rattle.pc_text.specs.Spells.{Spells};
 
 use pc_base::{NoMemory, Text};
 use pc_file::{File, Rule, Value, Variable};
@@ -12,9 +17,21 @@ use pc_rules::push_rule;
 use std::alloc::Global;
 
 /// The printed form of a file: its statements in order, each a line of words parted by one space.
-#[tactic(auto, using(crate::proofs::PrintedLines::printed_parts))]
+#[tactic(auto, using(crate::proofs::PrintedSpells::written_spells))]
 pub fn write_file(alloc: Global, file: &File) -> Result<Text, NoMemory>
-    ensures { IfOk result (λ text. text ≡ printed file.now) }
+    ensures exact { IfOk result (λ text. text ≡ printed file.now) }
+    // Reading it gives the file again, since a text spells one file at most.
+    ensures spells { IfOk result (λ text. IsPrintable file.now → Spells text file.now) }
+{
+    written(alloc, file)
+}
+
+/// The printed form, with what is seen of the file where it is written.
+#[tactic(auto, using(crate::proofs::PrintedLines::printed_parts, crate::proofs::PrintedLines::file_named))]
+fn written(alloc: Global, file: &File) -> Result<Text, NoMemory>
+    ensures exact { IfOk result (λ text. text ≡ printed file.now) }
+    ensures limits { OnOk result (IsFile file.now) }
+    ensures names { OnOk result (has_names file.now ≡ true) }
 {
     let mut text = Text::new(alloc);
     text.extend_from_slice(b"product 1\n")?;
@@ -27,7 +44,8 @@ pub fn write_file(alloc: Global, file: &File) -> Result<Text, NoMemory>
 
 /// The line of each cost.
 fn push_costs(text: &mut Text, costs: &[Name]) -> Result<(), NoMemory>
-    ensures { OnOk result (text.new ≡ text.old ++ flat_map (λ name. with_feed (cost_line name)) costs.now) }
+    ensures text { OnOk result (text.new ≡ text.old ++ flat_map (λ name. with_feed (cost_line name)) costs.now) }
+    ensures names { OnOk result (list_all is_name costs.now ≡ true) }
 {
     for cost in costs {
         text.extend_from_slice(b"cost ")?;
@@ -39,8 +57,9 @@ fn push_costs(text: &mut Text, costs: &[Name]) -> Result<(), NoMemory>
 
 /// The lines of each variable in a file of so many costs.
 fn push_variables(text: &mut Text, costs: usize, variables: &[Variable]) -> Result<(), NoMemory>
-    ensures { OnOk result (text.new ≡ text.old
+    ensures text { OnOk result (text.new ≡ text.old
         ++ flat_map (λ variable. with_feed (variable_line variable.name) ++ flat_map (λ value. with_feed (value_line costs value)) variable.values) variables.now) }
+    ensures names { OnOk result (list_all is_named variables.now ≡ true) }
 {
     for variable in variables {
         push_variable(text, costs, variable)?;
@@ -49,9 +68,11 @@ fn push_variables(text: &mut Text, costs: usize, variables: &[Variable]) -> Resu
 }
 
 /// The line of a variable, and those of its values.
+#[tactic(auto, using(crate::proofs::PrintedLines::named_parts))]
 fn push_variable(text: &mut Text, costs: usize, variable: &Variable) -> Result<(), NoMemory>
-    ensures { OnOk result (text.new ≡ text.old
+    ensures text { OnOk result (text.new ≡ text.old
         ++ (with_feed (variable_line variable.now.name) ++ flat_map (λ value. with_feed (value_line costs value)) variable.now.values)) }
+    ensures names { OnOk result (is_named variable.now ≡ true) }
 {
     text.extend_from_slice(b"variable ")?;
     text.extend_from_slice(variable.name.as_bytes())?;
@@ -61,7 +82,8 @@ fn push_variable(text: &mut Text, costs: usize, variable: &Variable) -> Result<(
 
 /// The line of each value.
 fn push_values(text: &mut Text, costs: usize, values: &[Value]) -> Result<(), NoMemory>
-    ensures { OnOk result (text.new ≡ text.old ++ flat_map (λ value. with_feed (value_line costs value)) values.now) }
+    ensures text { OnOk result (text.new ≡ text.old ++ flat_map (λ value. with_feed (value_line costs value)) values.now) }
+    ensures names { OnOk result (list_all (λ value. is_name value.name) values.now ≡ true) }
 {
     for value in values {
         push_value(text, costs, value)?;
@@ -70,7 +92,8 @@ fn push_values(text: &mut Text, costs: usize, values: &[Value]) -> Result<(), No
 }
 
 fn push_value(text: &mut Text, costs: usize, value: &Value) -> Result<(), NoMemory>
-    ensures { OnOk result (text.new ≡ text.old ++ with_feed (value_line costs value.now)) }
+    ensures text { OnOk result (text.new ≡ text.old ++ with_feed (value_line costs value.now)) }
+    ensures name { OnOk result (is_name value.now.name ≡ true) }
 {
     text.extend_from_slice(b"value ")?;
     text.extend_from_slice(value.name.as_bytes())?;

@@ -1,6 +1,6 @@
 use Rattle.std.proofs.Common.{◌≡◌, ◌++◌, take}
 use Rattle.std.specs.List.{flat_map}
-use Rattle.pc_file.specs.PrintedForm.{cost_line, rule_line, text_of_lines, value_line, variable_lines, with_feed}
+use Rattle.pc_file.specs.PrintedForm.{rule_line, with_feed}
 use Rattle.pc_text.proofs.writer.push_rules.Given as goal
 
 abbrev pub invariant-loop-rule : goal.invariant-loop-rule
