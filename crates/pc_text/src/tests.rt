@@ -191,3 +191,98 @@ fn a_text_has_at_most_a_mebibyte(rt: HostRuntime) -> Result<(), Fail> {
     assert_eq!(rt; fault_of(alloc, text.as_slice()), Some((21, Kind::Size)));
     Ok(())
 }
+
+/// The lines of the bike before its rules.
+const BIKE: &[u8] =
+    b"product 1\ncost price\ncost days\nvariable frame\nvalue steel 300 2\nvalue alloy 500 1\nvalue carbon 900 5\nvariable wheel\nvalue w26 80 1\nvalue w28 120 1\nvariable light\nvalue none 0 0\nvalue led 40 1\n";
+
+/// The text of the bike with one rule in place of its own.
+fn bike_with(alloc: Global, rule: &[u8]) -> Result<Text, NoMemory> {
+    let mut text = Text::from_slice(alloc, BIKE)?;
+    text.extend_from_slice(b"rule ")?;
+    text.extend_from_slice(rule)?;
+    text.extend_from_slice(b"\nend\n")?;
+    Ok(text)
+}
+
+/// Whether the file that a text spells is written so.
+fn is_written(alloc: Global, text: &[u8], form: &[u8]) -> bool {
+    match read_file(alloc, text) {
+        Ok(file) => match write_file(alloc, &file) {
+            Ok(written) => written.as_slice() == form,
+            Err(_) => false,
+        },
+        Err(_) => false,
+    }
+}
+
+#[test]
+fn a_rule_is_written_in_its_printed_form(rt: HostRuntime) -> Result<(), Fail> {
+    let alloc = rt.alloc();
+    let rules: [(&[u8], &[u8]); 13] = [
+        (
+            b"(frame=steel or light=led) => wheel=w26 and not (light=led)",
+            b"frame=steel or light=led => wheel=w26 and not light=led",
+        ),
+        (b"not (not frame=steel)", b"not (not frame=steel)"),
+        (
+            b"atmost 1 ((frame = steel),light=led)",
+            b"atmost 1 (frame=steel, light=led)",
+        ),
+        (
+            b"table (frame,wheel) {steel w26,alloy w28}",
+            b"table (frame, wheel) {steel w26, alloy w28}",
+        ),
+        (
+            b"(frame=steel and wheel=w26) and light=led",
+            b"(frame=steel and wheel=w26) and light=led",
+        ),
+        (
+            b"frame=steel or (wheel=w26 or light=led)",
+            b"frame=steel or (wheel=w26 or light=led)",
+        ),
+        (
+            b"frame=steel and (wheel=w26 or light=led) and not (frame=alloy and light=led)",
+            b"frame=steel and (wheel=w26 or light=led) and not (frame=alloy and light=led)",
+        ),
+        (
+            b"(frame=steel and wheel=w26) or (light=led)",
+            b"frame=steel and wheel=w26 or light=led",
+        ),
+        (
+            b"frame=steel => (wheel=w26 => light=led)",
+            b"frame=steel => (wheel=w26 => light=led)",
+        ),
+        (
+            b"atmost 64 ((frame=steel=>wheel=w26),not(wheel=w28))",
+            b"atmost 64 (frame=steel => wheel=w26, not wheel=w28)",
+        ),
+        (b" frame in{steel , alloy} ", b"frame in {steel, alloy}"),
+        (b"not same(frame,wheel)", b"not same(frame, wheel)"),
+        (b"((frame != steel))", b"frame!=steel"),
+    ];
+    for (rule, form) in rules.iter() {
+        let text = bike_with(alloc, rule)?;
+        let printed = bike_with(alloc, form)?;
+        assert!(rt; is_written(alloc, text.as_slice(), printed.as_slice()));
+        assert!(rt; is_written(alloc, printed.as_slice(), printed.as_slice()));
+    }
+    Ok(())
+}
+
+#[test]
+fn a_file_is_written_without_what_is_skipped(rt: HostRuntime) {
+    let texts: [(&[u8], &[u8]); 2] = [
+        (
+            b"# one cost\n\n product   1\ncost price\nvariable kind \nvalue only  -7\nend\n#",
+            b"product 1\ncost price\nvariable kind\nvalue only -7\nend\n",
+        ),
+        (
+            b"product 1\ncost price\ncost days\nvariable kind\nvalue only 1000000000 0\nrule kind = only\n  \nend",
+            b"product 1\ncost price\ncost days\nvariable kind\nvalue only 1000000000 0\nrule kind=only\nend\n",
+        ),
+    ];
+    for (text, form) in texts.iter() {
+        assert!(rt; is_written(rt.alloc(), text, form));
+    }
+}
