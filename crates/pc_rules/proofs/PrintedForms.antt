@@ -1,16 +1,13 @@
 -- The printed form of a rule, form by form.
 use Rattle.std.proofs.Common.{◌≡◌, ℕ, List, [], ◌∷◌, ◌++◌, map, refl, ap, ◌∙◌}
 use Rattle.std.specs.Prelude.{codes, decimal}
-use Rattle.std.specs.List.{flat_map, join_by}
+use Rattle.std.specs.List.{join_by}
+use Rattle.std.proofs.lemmas.List.Folds.{flat_map-map}
 use Rattle.pc_file.specs.declared.variable.Variable.{Variable}
 use Rattle.pc_file.specs.declared.rule.Rule.{Rule}
 use Rattle.pc_file.specs.declared.rule.Rule.TheVariants as rule
 use Rattle.pc_file.specs.PrintedRule.{Printed, in_place, printing_step, printing, printed_in_place, printed_rule}
 use Rattle.pc_rules.proofs.RuleFolds as of_rule
-
-flat_map-map : {X Y A : Type 0} (f : Y → List A) (g : X → Y) (xs : List X) → flat_map f (map g xs) ≡ flat_map (λ x. f (g x)) xs
-flat_map-map f g [] = refl
-flat_map-map f g (x ∷ xs) = ap (λ l. f (g x) ++ l) (flat_map-map f g xs)
 
 pub join_by-map : {X Y A : Type 0} (f : Y → List A) (sep : List A) (g : X → Y) (xs : List X) → join_by f sep (map g xs) ≡ join_by (λ x. f (g x)) sep xs
 join_by-map f sep g [] = refl

@@ -1,10 +1,11 @@
 use Rattle.std.proofs.Common.{ℕ, List, [], ◌∷◌, ◌++◌, codes, length, take, ap, sym, ◌∙◌, append_assoc}
 use Rattle.std.specs.List.{flat_map, zip}
 use Rattle.std.proofs.lemmas.List.{length_push}
-use Rattle.std.proofs.lemmas.Slice.Zip.{zip_turn, zip_end}
+use Rattle.std.proofs.Math.Seq.{take-length}
+use Rattle.std.proofs.lemmas.Slice.Zip.{length-zip, zip_turn, zip_end}
 use Rattle.pc_file.specs.declared.variable.Variable.{Variable}
 use Rattle.pc_file.specs.PrintedRule.{printed_value}
-use Rattle.pc_file.proofs.ZipLemmas.{zip_more, zip_all}
+use Rattle.pc_file.proofs.ZipLemmas.{zip_more}
 use Rattle.pc_rules.proofs.writer.push_more_of_row.Goals as goal
 
 abbrev named : List Variable → ℕ × ℕ → List ℕ
@@ -34,4 +35,4 @@ returns c =
     let row = c.args.row.now in
     let word = named c.args.variables.now in
     let end = zip_end these row c.loop-variable.yielded c.into_iter-variable-iterator.result c.loop-variable.variable-iterator c.next.new.self c.next.result (cc) (cc) c.loop-variable.yielded_by c.in-None.is c.next.ensures.steps in
-    c.loop-variable.invariant ∙ ap (λ pairs. c.args.text.now ++ flat_map word pairs) (zip_all word these row (length c.loop-variable.yielded) end)
+    c.loop-variable.invariant ∙ ap (λ pairs. c.args.text.now ++ flat_map word pairs) (ap (λ k. take k (zip these row)) (end ∙ sym (length-zip these row)) ∙ take-length (zip these row))
