@@ -1,0 +1,68 @@
+-- The bytes of printed lines, one after the other.
+use Rattle.std.proofs.Common.{◌≡◌, ℕ, suc, ◌+◌, ◌<◌, List, [], ◌∷◌, ◌++◌, length, get_or, map, take, drop, Option, None, Some, refl, sym, ap, ◌∙◌, arith}
+use Rattle.std.specs.Prelude.{option_and_then}
+use Rattle.std.specs.List.{flat_map}
+use Rattle.std.proofs.Math.Seq.{drop-cons}
+use Rattle.std.proofs.lemmas.Bool.Decides.{nat_tests}
+use Rattle.std.proofs.lemmas.Grind.{flat_map-append}
+use Rattle.std.proofs.lemmas.List.{append-nil, take_more, take-append-drop}
+use Rattle.std.proofs.lemmas.List.Concat.{flat_map_single}
+use Rattle.pc_file.specs.PrintedSize.{counted, with_line, with_lines}
+
+-- a size is counted well enough for the limits
+pub with_line-counted : (bytes size : ℕ) → with_line bytes (counted size) ≡ with_line bytes size
+with_line-counted bytes size = grind (arith, nat_tests)
+
+and_then_each : (lines later : List (List ℕ)) (o : Option ℕ) → ((more : ℕ) → with_lines more (lines ++ later) ≡ option_and_then (λ m. with_lines m later) (with_lines more lines)) →
+    option_and_then (λ more. with_lines more (lines ++ later)) o ≡ option_and_then (λ more. with_lines more later) (option_and_then (λ more. with_lines more lines) o)
+and_then_each lines later None each = refl
+and_then_each lines later (Some more) each = each more
+
+pub with_lines-append : (bytes : ℕ) (lines later : List (List ℕ)) → with_lines bytes (lines ++ later) ≡ option_and_then (λ more. with_lines more later) (with_lines bytes lines)
+with_lines-append bytes [] later = refl
+with_lines-append bytes (line ∷ lines) later = and_then_each lines later (with_line bytes (length line)) (λ more. with_lines-append more lines later)
+
+and_then_same : (o : Option ℕ) → option_and_then (λ more. Some more) o ≡ o
+and_then_same None = refl
+and_then_same (Some more) = refl
+
+-- one line alone
+with_lines-one : (bytes : ℕ) (line : List ℕ) → with_lines bytes (line ∷ []) ≡ with_line bytes (length line)
+with_lines-one bytes line = and_then_same (with_line bytes (length line))
+
+module _ {X : Type 0} (lines : X → List (List ℕ)) (bytes : ℕ) (xs : List X) (i : ℕ) (x : X) (so_far : ℕ) where
+  -- the lines of one item more
+  pub items_next : i < length xs → x ≡ get_or xs i x → with_lines bytes (flat_map lines (take i xs)) ≡ Some so_far →
+      with_lines bytes (flat_map lines (take (i + 1) xs)) ≡ with_lines so_far (lines x)
+  items_next below is before =
+      let front : take (i + 1) xs ≡ take i xs ++ x ∷ [] = take_more xs i x below ∙ ap (λ y. take i xs ++ y ∷ []) (sym is) in
+      ap (λ ys. with_lines bytes (flat_map lines ys)) front
+      ∙ ap (with_lines bytes) (flat_map-append lines (take i xs) (x ∷ []) ∙ ap (λ more. flat_map lines (take i xs) ++ more) (append-nil (lines x)))
+      ∙ with_lines-append bytes (flat_map lines (take i xs)) (lines x) ∙ ap (option_and_then (λ more. with_lines more (lines x))) before
+
+  -- a limit is broken in the lines of an item
+  pub items_stop : i < length xs → x ≡ get_or xs i x → with_lines bytes (flat_map lines (take i xs)) ≡ Some so_far → with_lines so_far (lines x) ≡ None →
+      with_lines bytes (flat_map lines xs) ≡ None
+  items_stop below is before stops =
+      let later = flat_map lines (drop (suc i) xs) in
+      let rest : drop i xs ≡ x ∷ drop (suc i) xs = drop-cons xs i x below ∙ ap (λ y. y ∷ drop (suc i) xs) (sym is) in
+      let whole : xs ≡ take i xs ++ x ∷ drop (suc i) xs = sym (take-append-drop i xs) ∙ ap (λ r. take i xs ++ r) rest in
+      ap (λ ys. with_lines bytes (flat_map lines ys)) whole ∙ ap (with_lines bytes) (flat_map-append lines (take i xs) (x ∷ drop (suc i) xs))
+      ∙ with_lines-append bytes (flat_map lines (take i xs)) (lines x ++ later) ∙ ap (option_and_then (λ more. with_lines more (lines x ++ later))) before
+      ∙ with_lines-append so_far (lines x) later ∙ ap (option_and_then (λ more. with_lines more later)) stops
+
+module _ {X : Type 0} (line : X → List ℕ) (bytes : ℕ) (xs : List X) (i : ℕ) (x : X) (so_far : ℕ) where
+  as_items : (ys : List X) → with_lines bytes (map line ys) ≡ with_lines bytes (flat_map (λ y. line y ∷ []) ys)
+  as_items ys = ap (with_lines bytes) (sym (flat_map_single line ys))
+
+  -- one line more
+  pub lines_next : i < length xs → x ≡ get_or xs i x → with_lines bytes (map line (take i xs)) ≡ Some so_far →
+      with_lines bytes (map line (take (i + 1) xs)) ≡ with_line so_far (length (line x))
+  lines_next below is before =
+      as_items (take (i + 1) xs) ∙ items_next (λ y. line y ∷ []) bytes xs i x so_far below is (sym (as_items (take i xs)) ∙ before) ∙ with_lines-one so_far (line x)
+
+  -- a limit is broken at a line
+  pub lines_stop : i < length xs → x ≡ get_or xs i x → with_lines bytes (map line (take i xs)) ≡ Some so_far → with_line so_far (length (line x)) ≡ None →
+      with_lines bytes (map line xs) ≡ None
+  lines_stop below is before stops =
+      as_items xs ∙ items_stop (λ y. line y ∷ []) bytes xs i x so_far below is (sym (as_items (take i xs)) ∙ before) (with_lines-one so_far (line x) ∙ stops)
