@@ -1,5 +1,8 @@
 -- The limits of the printed form, and sizes as the program counts them.
-use Rattle.std.specs.Prelude.{ℕ, ◌+◌, ◌-◌, ◌^◌, nat_le, min, Bool, ◌&&◌, if◌then◌else◌, List, [], ◌∷◌, length, Option, Some, None, option_and_then}
+use Rattle.std.specs.Prelude.{◌≡◌, ℕ, ◌+◌, ◌-◌, ◌^◌, ◌≤◌, nat_le, min, Bool, true, ◌&&◌, if◌then◌else◌, List, [], ◌∷◌, length, Option, Some, None, option_and_then}
+use Rattle.std.specs.List.{list_all}
+use Rattle.pc_file.specs.Contents.{Contents}
+use Rattle.pc_file.specs.PrintedForm.{printed, printed_lines}
 
 -- a size, or the last value of 64 bits where it is greater
 abbrev pub counted : ℕ → ℕ
@@ -12,6 +15,14 @@ is_short size = nat_le size 65536
 -- printed lines have at most 1,048,576 bytes with their line feeds
 abbrev pub is_small : ℕ → Bool
 is_small size = nat_le size 1048576
+
+abbrev pub is_short_line : List ℕ → Bool
+is_short_line line = is_short (length line)
+
+-- the printed form keeps both limits
+pub record IsPrintable (file : Contents) : Type 0 where
+  pub each_line : list_all is_short_line (printed_lines file) ≡ true
+  pub bytes_at_most : length (printed file) ≤ 1048576
 
 -- The bytes of printed lines, with one line more of this size and its line feed; nothing where that breaks a limit.
 abbrev pub with_line : ℕ → ℕ → Option ℕ

@@ -1,10 +1,10 @@
 //! How many bytes the lines of a printed form have, counted without printing them, and their limits: 65,536 bytes in a
 //! line, and 1,048,576 bytes in all with the line feeds.
 
-ghost use Rattle.std.specs.Prelude.{◌≡◌, length, map};
+ghost use Rattle.std.specs.Prelude.{◌≡◌, ◌↔◌, length, map, IsTrue};
 ghost use Rattle.std.specs.List.{flat_map};
-ghost use Rattle.pc_file.specs.PrintedForm.{header_line, cost_line, variable_line, value_line, rule_line, end_line, variable_lines};
-ghost use Rattle.pc_file.specs.PrintedSize.{counted, with_line, with_lines};
+ghost use Rattle.pc_file.specs.PrintedForm.{header_line, cost_line, variable_line, value_line, rule_line, end_line, variable_lines, printed_lines};
+ghost use Rattle.pc_file.specs.PrintedSize.{counted, with_line, with_lines, IsPrintable};
 
 use crate::printed_size::rule_size;
 use crate::rule::Rule;
@@ -127,4 +127,24 @@ fn with_rules(bytes: usize, variables: &[Variable], rules: &[Rule]) -> Option<us
         bytes = with_line(bytes, rule_line_size(variables, rule))?;
     }
     Some(bytes)
+}
+
+/// The bytes of the printed form of a file with these costs, variables and rules, or `None` where that breaks a limit.
+#[tactic(auto, using(crate::proofs::LineSizeLemmas::lines_append))]
+fn printed_size(costs: &[Name], variables: &[Variable], rules: &[Rule]) -> Option<usize>
+    ensures { result ≡ with_lines 0 (printed_lines (record { costs = costs.now; variables = variables.now; rules = rules.now })) }
+{
+    let bytes = with_line(0, header_line_size())?;
+    let bytes = with_costs(bytes, costs)?;
+    let bytes = with_variables(bytes, costs.len(), variables)?;
+    let bytes = with_rules(bytes, variables, rules)?;
+    with_line(bytes, end_line_size())
+}
+
+/// Whether the printed form of a file with these costs, variables and rules keeps its limits.
+#[tactic(auto, using(crate::proofs::LineSizeLemmas::keeps_limits))]
+pub fn is_printable(costs: &[Name], variables: &[Variable], rules: &[Rule]) -> bool
+    ensures { IsTrue result ↔ IsPrintable (record { costs = costs.now; variables = variables.now; rules = rules.now }) }
+{
+    printed_size(costs, variables, rules).is_some()
 }
