@@ -7,8 +7,10 @@ use Rattle.std.proofs.lemmas.Bool.Decides.{nat_tests}
 use Rattle.std.proofs.lemmas.Grind.{flat_map-append}
 use Rattle.std.proofs.lemmas.List.{append-nil, length-append, take_more, take-append-drop}
 use Rattle.std.proofs.lemmas.List.Concat.{flat_map_single}
-use Rattle.pc_file.specs.PrintedForm.{text_of_lines, with_feed}
-use Rattle.pc_file.specs.PrintedSize.{counted, is_short, is_short_line, is_small, with_line, with_lines}
+use Rattle.pc_base.proofs.DistinctLemmas.{both_true_parts}
+use Rattle.pc_file.specs.Contents.{Contents}
+use Rattle.pc_file.specs.PrintedForm.{printed_lines, text_of_lines, with_feed}
+use Rattle.pc_file.specs.PrintedSize.{counted, is_short, is_short_line, is_small, with_line, with_lines, IsPrintable}
 
 -- a size is counted well enough for the limits
 pub with_line-counted : (bytes size : ℕ) → with_line bytes (counted size) ≡ with_line bytes size
@@ -99,3 +101,24 @@ keeps_limits bytes (line ∷ lines) small =
         and_false first ∙ ap (λ b. first && b) (sym over)
     by false small_so_far is_long is_small each =
         ap (λ b. (b && list_all is_short_line lines) && nat_le (bytes + length (text_of_lines (line ∷ lines))) 1048576) (sym is_long)
+
+-- the bytes are those of the text of the lines
+pub size_told : (bytes : ℕ) (lines : List (List ℕ)) (total : ℕ) → with_lines bytes lines ≡ Some total → total ≡ bytes + length (text_of_lines lines)
+size_told bytes [] total told = let same : bytes ≡ total = cc in omega arith
+size_told bytes (line ∷ lines) total told =
+    by (is_short (length line) && is_small (bytes + length line + 1)) told (size_told (bytes + length line + 1) lines total)
+  where
+    by : (kept : Bool) → option_and_then (λ more. with_lines more lines) (if kept then Some (bytes + length line + 1) else None) ≡ Some total →
+        (with_lines (bytes + length line + 1) lines ≡ Some total → total ≡ bytes + length line + 1 + length (text_of_lines lines)) →
+        total ≡ bytes + length (text_of_lines (line ∷ lines))
+    by true told later = omega (arith, later told, size_of_more line lines)
+    by false told later = absurd cc
+
+-- a file that has a size keeps the limits
+pub printable : (file : Contents) (total : ℕ) → with_lines 0 (printed_lines file) ≡ Some total → IsPrintable file
+printable file total told =
+    let lines = printed_lines file in
+    let both : (list_all is_short_line lines && nat_le (0 + length (text_of_lines lines)) 1048576) ≡ true = sym (keeps_limits 0 lines (omega arith)) ∙ ap is_some told in
+    let parts = both_true_parts (list_all is_short_line lines) (nat_le (0 + length (text_of_lines lines)) 1048576) both in
+    let small = parts.1 in
+    record { each_line = parts.0; bytes_at_most = grind (arith, nat_tests) }

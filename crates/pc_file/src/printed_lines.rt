@@ -131,7 +131,7 @@ fn with_rules(bytes: usize, variables: &[Variable], rules: &[Rule]) -> Option<us
 
 /// The bytes of the printed form of a file with these costs, variables and rules, or `None` where that breaks a limit.
 #[tactic(auto, using(crate::proofs::LineSizeLemmas::lines_append))]
-fn printed_size(costs: &[Name], variables: &[Variable], rules: &[Rule]) -> Option<usize>
+pub fn printed_size(costs: &[Name], variables: &[Variable], rules: &[Rule]) -> Option<usize>
     ensures { result ≡ with_lines 0 (printed_lines (record { costs = costs.now; variables = variables.now; rules = rules.now })) }
 {
     let bytes = with_line(0, header_line_size())?;

@@ -135,8 +135,8 @@ pub fn rule_size(variables: &[Variable], rule: &Rule) -> usize
         Rule::Not(inner) => "not "
             .len()
             .saturating_add(size_in_place(4, variables, inner.get())),
-        Rule::And(members) => { members_size(3, variables, members.as_slice(), " and ") }
-        Rule::Or(members) => { members_size(2, variables, members.as_slice(), " or ") }
+        Rule::And(members) => members_size(3, variables, members.as_slice(), " and "),
+        Rule::Or(members) => members_size(2, variables, members.as_slice(), " or "),
         Rule::Implies(premise, consequence) => size_in_place(1, variables, premise.get())
             .saturating_add(" => ".len())
             .saturating_add(size_in_place(1, variables, consequence.get())),
