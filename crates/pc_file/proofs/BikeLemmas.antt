@@ -1,5 +1,5 @@
 -- The worked example, by evaluation.
-use Rattle.std.proofs.Common.{◌≡◌, ℕ, ◌≤◌, Bool, true, ◌&&◌, nat_le, List, [], ◌∷◌, ◌++◌, length, map, filter, refl, sym, ap, ◌∙◌, arith}
+use Rattle.std.proofs.Common.{◌≡◌, ℕ, Bool, true, ◌&&◌, nat_le, List, [], ◌∷◌, ◌++◌, length, map, filter, refl, sym, ap, ◌∙◌, arith}
 use Rattle.std.specs.Prelude.{codes}
 use Rattle.std.specs.Fmt.{digits}
 use Rattle.std.specs.List.{list_all, flat_map}
@@ -12,7 +12,7 @@ use Rattle.pc_file.specs.Nesting.{Nesting, nesting, nesting_step}
 use Rattle.pc_file.specs.Limits.{is_spelled_step, is_rule}
 use Rattle.pc_file.specs.PrintedRule.{Printed, printing_step, printed_rule}
 use Rattle.pc_file.specs.PrintedForm.{header_line, cost_line, variable_lines, line_of, end_line, text_of_lines, printed, printed_lines}
-use Rattle.pc_file.specs.PrintedSize.{is_short_line}
+use Rattle.pc_file.specs.PrintedSize.{is_short_line, IsPrintable}
 use Rattle.pc_file.specs.Products.{all_words, value_counts, obeys, products}
 use Rattle.pc_file.specs.Bike.{bike, bike_printed}
 
@@ -106,8 +106,8 @@ short_lines : list_all is_short_line (lines_with (codes "frame=carbon => wheel=w
 unfolding lines_with digits
 short_lines = refl
 
-pub bike_short_lines : list_all is_short_line (printed_lines bike) ≡ true
-bike_short_lines = ap (list_all is_short_line) bike_lines ∙ short_lines
-
-pub bike_few_bytes : length (printed bike) ≤ 1048576
-bike_few_bytes = omega (arith, ap length bike_text)
+pub bike_printable : IsPrintable bike
+bike_printable = record {
+  each_line = ap (list_all is_short_line) bike_lines ∙ short_lines;
+  bytes_at_most = omega (arith, ap length bike_text);
+}
