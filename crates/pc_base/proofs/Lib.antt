@@ -1,2 +1,3 @@
 pub mod DistinctLemmas
 pub mod LineCuts
+pub mod WidthLemmas

@@ -8,12 +8,14 @@ mod memory;
 mod sequence;
 mod text;
 mod threads;
+mod width;
 
 pub use distinct::all_differ;
 pub use memory::NoMemory;
 pub use sequence::Sequence;
 pub use text::{Line, Text};
 pub use threads::crosses_threads;
+pub use width::{signed_width, unsigned_width};
 
 #[cfg(test)]
 mod tests;

@@ -41,6 +41,29 @@ fn numbers_are_canonical_decimal(rt: HostRuntime) -> Result<(), Fail> {
 }
 
 #[test]
+fn widths_are_those_of_the_text(rt: HostRuntime) -> Result<(), Fail> {
+    assert_eq!(rt;
+        [
+            unsigned_width(0),
+            unsigned_width(9),
+            unsigned_width(10),
+            unsigned_width(u64::MAX)
+        ],
+        [1, 1, 2, 20]
+    );
+    assert_eq!(rt;
+        [
+            signed_width(0),
+            signed_width(-1),
+            signed_width(-10),
+            signed_width(i64::MIN)
+        ],
+        [1, 2, 3, 20]
+    );
+    Ok(())
+}
+
+#[test]
 fn want_of_memory_has_a_message(rt: HostRuntime) -> Result<(), Fail> {
     let message = format!(in rt.alloc(); "{NoMemory}")?;
     assert_eq!(rt; message.as_str(), "out of memory");

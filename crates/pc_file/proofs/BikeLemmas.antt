@@ -1,5 +1,5 @@
 -- The worked example, by evaluation.
-use Rattle.std.proofs.Common.{◌≡◌, ℕ, Bool, true, ◌&&◌, nat_le, List, [], ◌∷◌, ◌++◌, length, map, filter, refl, sym, ap, ◌∙◌}
+use Rattle.std.proofs.Common.{◌≡◌, ℕ, Bool, true, ◌&&◌, nat_le, List, [], ◌∷◌, ◌++◌, length, map, filter, refl, sym, ap, ◌∙◌, arith}
 use Rattle.std.specs.Prelude.{codes}
 use Rattle.std.specs.Fmt.{digits}
 use Rattle.std.specs.List.{list_all, flat_map}
@@ -11,7 +11,8 @@ use Rattle.pc_file.specs.Rule.{holds, holds_step}
 use Rattle.pc_file.specs.Nesting.{Nesting, nesting, nesting_step}
 use Rattle.pc_file.specs.Limits.{is_spelled_step, is_rule}
 use Rattle.pc_file.specs.PrintedRule.{Printed, printing_step, printed_rule}
-use Rattle.pc_file.specs.PrintedForm.{header_line, cost_line, variable_lines, line_of, end_line, text_of_lines, printed}
+use Rattle.pc_file.specs.PrintedForm.{header_line, cost_line, variable_lines, line_of, end_line, text_of_lines, printed, printed_lines}
+use Rattle.pc_file.specs.PrintedSize.{is_short_line, IsPrintable}
 use Rattle.pc_file.specs.Products.{all_words, value_counts, obeys, products}
 use Rattle.pc_file.specs.Bike.{bike, bike_printed}
 
@@ -80,16 +81,33 @@ printed_first = ap (λ r. r.text) (at_first Printed (printing_step bike.variable
 printed_second : printed_rule bike.variables (Not (And (Is 0 0 ∷ Is 2 1 ∷ []))) ≡ codes "not (frame=steel and light=led)"
 printed_second = ap (λ r. r.text) (at_second Printed (printing_step bike.variables))
 
--- the text, where the two rules are printed so
-text_with : List ℕ → List ℕ → List ℕ
-text_with first second = text_of_lines (
+-- the lines, where the two rules are printed so
+lines_with : List ℕ → List ℕ → List (List ℕ)
+lines_with first second =
     header_line
     ∷ map cost_line bike.costs
     ++ (flat_map (variable_lines (length bike.costs)) bike.variables
-    ++ (line_of (codes "rule" ∷ first ∷ []) ∷ line_of (codes "rule" ∷ second ∷ []) ∷ [] ++ end_line ∷ [])))
+    ++ (line_of (codes "rule" ∷ first ∷ []) ∷ line_of (codes "rule" ∷ second ∷ []) ∷ [] ++ end_line ∷ []))
+
+bike_lines : printed_lines bike ≡ lines_with (codes "frame=carbon => wheel=w28") (codes "not (frame=steel and light=led)")
+unfolding lines_with
+bike_lines =
+    ap (λ first. lines_with first (printed_rule bike.variables (Not (And (Is 0 0 ∷ Is 2 1 ∷ []))))) printed_first
+    ∙ ap (lines_with (codes "frame=carbon => wheel=w28")) printed_second
+
+bike_evaluated : text_of_lines (lines_with (codes "frame=carbon => wheel=w28") (codes "not (frame=steel and light=led)")) ≡ bike_printed
+unfolding lines_with digits
+bike_evaluated = refl
 
 pub bike_text : printed bike ≡ bike_printed
-unfolding text_with digits
-bike_text =
-    ap (λ first. text_with first (printed_rule bike.variables (Not (And (Is 0 0 ∷ Is 2 1 ∷ []))))) printed_first
-    ∙ ap (text_with (codes "frame=carbon => wheel=w28")) printed_second
+bike_text = ap text_of_lines bike_lines ∙ bike_evaluated
+
+short_lines : list_all is_short_line (lines_with (codes "frame=carbon => wheel=w28") (codes "not (frame=steel and light=led)")) ≡ true
+unfolding lines_with digits
+short_lines = refl
+
+pub bike_printable : IsPrintable bike
+bike_printable = record {
+  each_line = ap (list_all is_short_line) bike_lines ∙ short_lines;
+  bytes_at_most = omega (arith, ap length bike_text);
+}

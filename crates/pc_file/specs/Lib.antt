@@ -6,6 +6,7 @@ pub mod Rule
 pub mod Nesting
 pub mod PrintedRule
 pub mod PrintedForm
+pub mod PrintedSize
 pub mod Limits
 pub mod Positions
 pub mod Words

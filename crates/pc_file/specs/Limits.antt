@@ -12,6 +12,7 @@ use Rattle.pc_file.specs.declared.rule.Rule.TheFolds.{fold-Rule}
 use Rattle.pc_file.specs.Names.{value_name}
 use Rattle.pc_file.specs.Nesting.{nesting}
 pub use Rattle.pc_file.specs.Contents.{Contents}
+use Rattle.pc_file.specs.PrintedSize.{IsPrintable}
 
 -- the words of the rule language, which name no variable
 abbrev pub reserved_words : List (List ℕ)
@@ -96,3 +97,4 @@ pub record IsFile (file : Contents) : Type 0 where
   pub each_variable : list_all (is_variable (length file.costs)) file.variables ≡ true
   pub rules_at_most : length file.rules ≤ 1024
   pub each_rule : list_all (is_rule file.variables) file.rules ≡ true
+  pub printable : IsPrintable file

@@ -9,6 +9,7 @@ ghost use Rattle.pc_file.specs.Positions.{variable_named, value_named, cost_at, 
 use crate::catalogue::Catalogue;
 use crate::limits::{are_rules, are_variables};
 use crate::names::Names;
+use crate::printed_lines::is_printable;
 use crate::rule::Rule;
 use crate::variable::Variable;
 use pc_base::{NoMemory, Sequence};
@@ -78,6 +79,7 @@ impl File {
         if !has_right_counts(costs.len(), variables.len(), rules.len())
             || !are_variables(costs.len(), variables.as_slice())
             || !are_rules(variables.as_slice(), rules.as_slice())
+            || !is_printable(costs.as_slice(), variables.as_slice(), rules.as_slice())
             || !names_differ(alloc, costs.as_slice())?
         {
             return Err(FileFault::Limit);

@@ -12,6 +12,8 @@ mod listing;
 mod listing_text;
 mod names;
 mod nesting;
+mod printed_lines;
+mod printed_size;
 mod products;
 mod rule;
 mod variable;
@@ -26,6 +28,11 @@ pub use limits::is_reserved;
 pub use listing::{costs_of, listing_over, plain_listing};
 pub use listing_text::push_listing;
 pub use names::Names;
+pub use nesting::strength;
+pub use printed_lines::{
+    cost_line_size, end_line_size, header_line_size, rule_line_size, value_line_size,
+    variable_line_size, with_line,
+};
 pub use products::{PlainFault, has_few_words, plain_products};
 pub use rule::Rule;
 pub use variable::{Value, Variable};

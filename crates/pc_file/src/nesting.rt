@@ -1,14 +1,17 @@
 //! The parentheses of a rule's printed form.
 
-ghost use Rattle.std.specs.Prelude.{◌≡◌, nat_le, ◌≤◌};
+ghost use Rattle.std.specs.Prelude.{◌≡◌, nat_le, ◌≤◌, List};
 ghost use Rattle.std.specs.List.{list_all};
+ghost use Rattle.pc_file.specs.declared.variable.Variable.{Variable};
 ghost use Rattle.pc_file.specs.Nesting.{nesting, open_in_place};
+ghost use Rattle.pc_file.specs.PrintedRule.{printing};
 
 use crate::rule::Rule;
 
 /// How much a printed rule binds: 0 for an implication, 1 for `or`, 2 for `and`, 3 for `not`, 4 for all others.
-fn strength(rule: &Rule) -> u8
-    ensures { result ≡ (nesting rule.now).strength }
+pub fn strength(rule: &Rule) -> u8
+    ensures nesting { result ≡ (nesting rule.now).strength }
+    ensures printed { (variables : List Variable) → result ≡ (printing variables rule.now).strength }
 {
     match rule {
         Rule::Implies(..) => 0,

@@ -1,4 +1,5 @@
 use super::*;
+use crate::printed_lines::printed_size;
 use pc_base::{Sequence, Text, crosses_threads};
 use pc_diagram::{Bounds, Choices, Which, Word};
 use pc_names::Name;
@@ -395,12 +396,17 @@ fn wrong_rule(alloc: Global, fault: u32) -> Result<Rule, Fail> {
     }
 }
 
-/// So many members `x = a` of an `atmost`.
-fn at_most_of_many(alloc: Global, count: u32) -> Result<Rule, Fail> {
+/// So many members `x = a`.
+fn copies(alloc: Global, count: u32) -> Result<Items<Rule>, Fail> {
     let mut members = Items::new(alloc);
     for _ in 0..count {
         members.push(is(0, 0))?;
     }
+    Ok(members)
+}
+
+fn at_most_of_many(alloc: Global, count: u32) -> Result<Rule, Fail> {
+    let members = copies(alloc, count)?;
     Ok(Rule::AtMost { most: 64, members })
 }
 
@@ -447,6 +453,100 @@ fn rules_have_limits(rt: HostRuntime) -> Result<(), Fail> {
             refused,
             "{depth}"
         );
+    }
+    Ok(())
+}
+
+/// The forms of `holding_rule` as they are printed, and some of them under `not`.
+const PRINTED: &[(u32, bool, &[u8])] = &[
+    (0, false, b"x=a"),
+    (1, false, b"x!=b"),
+    (2, false, b"x in {c, a}"),
+    (3, false, b"not x=b"),
+    (4, false, b"x=a and y=a"),
+    (5, false, b"x=b or y=a"),
+    (6, false, b"x=b => y=b"),
+    (8, false, b"same(x, y)"),
+    (9, false, b"atmost 1 (x=a, y=b)"),
+    (10, false, b"table (y, x) {b b, a a}"),
+    (0, true, b"not x=a"),
+    (3, true, b"not (not x=b)"),
+    (4, true, b"not (x=a and y=a)"),
+    (8, true, b"not same(x, y)"),
+];
+
+#[test]
+fn rules_have_printed_sizes(rt: HostRuntime) -> Result<(), Fail> {
+    let variables = variables(rt.alloc(), LETTERS)?;
+    for (form, is_negated, text) in PRINTED {
+        let mut rule = holding_rule(rt.alloc(), *form)?;
+        if *is_negated {
+            rule = negated(rt.alloc(), rule)?;
+        }
+        let size = rule_line_size(variables.as_slice(), &rule);
+        assert_eq!(rt; size, "rule ".len() + text.len(), "{form}");
+    }
+    Ok(())
+}
+
+const BIKE_TEXT: &[u8] = b"product 1\n\
+    cost price\n\
+    cost days\n\
+    variable frame\n\
+    value steel 300 2\n\
+    value alloy 500 1\n\
+    value carbon 900 5\n\
+    variable wheel\n\
+    value w26 80 1\n\
+    value w28 120 1\n\
+    variable light\n\
+    value none 0 0\n\
+    value led 40 1\n\
+    rule frame=carbon => wheel=w28\n\
+    rule not (frame=steel and light=led)\n\
+    end\n";
+
+#[test]
+fn bike_has_the_size_of_its_text(rt: HostRuntime) -> Result<(), Fail> {
+    let file = bike(rt.alloc())?;
+    assert_eq!(rt;
+        printed_size(file.costs(), file.variables(), file.rules()),
+        Some(BIKE_TEXT.len())
+    );
+    Ok(())
+}
+
+/// `x=a and x=a and ..` with so many members, in 8 bytes for each with the word `rule` before it.
+fn chain(alloc: Global, count: u32) -> Result<Rule, Fail> {
+    Ok(Rule::And(copies(alloc, count)?))
+}
+
+/// A file of 41 bytes, its cost's name and its rules: so many chains of a length, and one of another.
+fn chained(
+    alloc: Global,
+    cost: &[u8],
+    chains: (u32, u32, u32),
+) -> Result<Result<File, FileFault>, Fail> {
+    let costs = names(alloc, &[cost])?;
+    let variables = variables(alloc, TINY)?;
+    let mut rules = Sequence::new(alloc);
+    for _ in 0..chains.0 {
+        rules.push(chain(alloc, chains.1)?)?;
+    }
+    rules.push(chain(alloc, chains.2)?)?;
+    Ok(File::new(alloc, costs, variables, rules))
+}
+
+#[test]
+fn printed_forms_have_limits(rt: HostRuntime) -> Result<(), Fail> {
+    for (cost, chains, refused) in [
+        (b"price".as_slice(), (0, 0, 8_192), false),
+        (b"price", (0, 0, 8_193), true),
+        (b"price", (17, 7_281, 7_287), false),
+        (b"prices", (17, 7_281, 7_287), true),
+    ] {
+        let file = chained(rt.alloc(), cost, chains)?;
+        assert_eq!(rt; is_refused(&file), refused, "{chains:?}");
     }
     Ok(())
 }

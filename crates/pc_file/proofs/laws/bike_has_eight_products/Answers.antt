@@ -4,7 +4,7 @@ use Rattle.pc_diagram.specs.Bounds.{no_bounds}
 use Rattle.pc_diagram.specs.Listing.{listing}
 use Rattle.pc_file.specs.Costs.{costs_of}
 use Rattle.pc_file.specs.Bike.{bike}
-use Rattle.pc_file.proofs.BikeLemmas.{bike_products, bike_rules, bike_text}
+use Rattle.pc_file.proofs.BikeLemmas.{bike_products, bike_rules, bike_text, bike_printable}
 use Rattle.pc_file.proofs.laws.bike_has_eight_products.Goals as goal
 
 pub returns-clause-limits : goal.returns-clause-limits
@@ -18,6 +18,7 @@ returns-clause-limits c = record {
   each_variable = refl;
   rules_at_most = omega arith;
   each_rule = bike_rules;
+  printable = bike_printable;
 }
 
 pub returns-clause-products : goal.returns-clause-products

@@ -33,4 +33,4 @@ returns c =
     let variables = c.args.variables.now in
     let rows = c.args.listing.now in
     let end = zip_end variables rows c.loop-variable.yielded c.into_iter-variable-iterator.result c.loop-variable.variable-iterator c.next.new.self c.next.result (cc) (cc) c.loop-variable.yielded_by c.in-None.is c.next.ensures.steps in
-    c.loop-variable.invariant ∙ ap (λ pairs. c.args.text.now ++ flat_map (lines variables) pairs) (zip_all (lines variables) variables rows (length c.loop-variable.yielded) end)
+    c.loop-variable.invariant ∙ ap (λ pairs. c.args.text.now ++ flat_map (lines variables) pairs) (zip_all variables rows (length c.loop-variable.yielded) end)

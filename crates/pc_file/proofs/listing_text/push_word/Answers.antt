@@ -32,4 +32,4 @@ returns c =
     let variables = c.args.variables.now in
     let word = c.args.word.now in
     let end = zip_end variables word c.loop-variable.yielded c.into_iter-variable-iterator.result c.loop-variable.variable-iterator c.next.new.self c.next.result (cc) (cc) c.loop-variable.yielded_by c.in-None.is c.next.ensures.steps in
-    c.loop-variable.invariant ∙ ap (λ pairs. c.args.text.now ++ flat_map named pairs) (zip_all named variables word (length c.loop-variable.yielded) end)
+    c.loop-variable.invariant ∙ ap (λ pairs. c.args.text.now ++ flat_map named pairs) (zip_all variables word (length c.loop-variable.yielded) end)
