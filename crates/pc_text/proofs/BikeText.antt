@@ -9,7 +9,7 @@ use Rattle.pc_file.specs.Limits.{IsFile}
 use Rattle.pc_file.specs.declared.catalogue.Catalogue.{Catalogue}
 use Rattle.pc_file.specs.declared.rule.Rule.{Rule, Rule-F, fold-Rule}
 use Rattle.pc_file.specs.declared.rule.Rule.TheVariants as rule
-use Rattle.pc_file.proofs.BikeLemmas.{bike_rules}
+use Rattle.pc_file.proofs.BikeLemmas.{bike_rules, bike_printable}
 use Rattle.pc_rules.specs.declared.checks.AtMostFault.TheVariants.{Number, Length}
 use Rattle.pc_rules.specs.declared.phrase.Phrase.{Phrase-F, fold-Phrase}
 use Rattle.pc_rules.specs.declared.phrase.Phrase.TheVariants.{Is, Not, And, Implies}
@@ -121,6 +121,7 @@ is_file = record {
   each_variable = refl;
   rules_at_most = omega arith;
   each_rule = bike_rules;
+  printable = bike_printable;
 }
 
 -- product and costs; frame; wheel; light; rules and end

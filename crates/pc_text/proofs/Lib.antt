@@ -5,6 +5,7 @@ pub mod LineLemmas
 pub mod LineWordLemmas
 pub mod Meanings
 pub mod NoFaultIsSpelled
+pub mod PrintedBytes
 pub mod PrintedLines
 pub mod PrintedSpells
 pub mod PrintedWords

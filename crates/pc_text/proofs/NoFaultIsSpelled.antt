@@ -15,19 +15,21 @@ use Rattle.pc_file.specs.declared.rule.Rule.{Rule}
 use Rattle.pc_file.specs.declared.variable.Value.{Value}
 use Rattle.pc_file.specs.declared.variable.Variable.{Variable}
 use Rattle.pc_file.specs.Limits.{Contents, IsFile, is_reserved}
+use Rattle.pc_file.specs.PrintedForm.{rule_line, value_line}
 use Rattle.pc_text.specs.declared.keyword.Keyword.{Keyword}
 use Rattle.pc_text.specs.declared.keyword.Keyword.TheVariants as keyword
 use Rattle.pc_rules.specs.declared.kind.Kind.{Kind}
 use Rattle.pc_text.specs.LineWords.{after_word}
-use Rattle.pc_text.specs.Given.{Given, nothing_given, variables_given, catalogue_of, is_skipped, keyword_at, arguments_at, argument, value_given, with_value, give_statement, contents_given}
-use Rattle.pc_text.specs.Orders.{comes_wrong}
+use Rattle.pc_text.specs.Given.{Given, nothing_given, variables_given, catalogue_of, is_skipped, keyword_at, arguments_at, argument, value_given, with_value, give_statement, contents_given, print_more}
+use Rattle.pc_text.specs.Orders.{comes_wrong, print_fault}
 use Rattle.pc_rules.specs.RuleText.{rule_of}
 use Rattle.pc_text.specs.FirstFault.{line_fault, give_line, end_fault, given_from, first_fault, given_by}
 use Rattle.pc_text.specs.Statement.{Statement, header, a_cost, a_variable, a_value, a_rule, end, Says, statements, variable_statements}
 use Rattle.pc_text.specs.Spells.{Spells, is_significant, significant_lines}
 use Rattle.pc_text.proofs.FaultLemmas.{given_from-nil, given_from-cons}
 use Rattle.pc_text.proofs.Meanings.{Means, means_says}
-use Rattle.pc_text.proofs.SoundText.{no_fault_is_file}
+use Rattle.pc_text.proofs.PrintedBytes.{statement_line, print_all, printed_so, without_fault}
+use Rattle.pc_text.proofs.SoundText.{no_fault_is_file, no_fault_has_costs}
 use Rattle.pc_text.proofs.SignificantLines.{Faultless, kept_fault, kept_give, skipped_give, kept_lines, skipped_lines, no_fault_parts}
 use Rattle.pc_text.proofs.StatementFaults.{NoFault, no_fault_parts as statement_parts}
 use Rattle.pc_text.proofs.ValueWords.{words_of_given}
@@ -77,6 +79,8 @@ record Taken (given next : Given) (word : Option Keyword) (arguments : List (Lis
   rule_comes : word ≡ Some keyword.Rule → (past_variables next.last ≡ true) × (variables_given next ≡ variables_given given)
   costs_stay : past_costs given.last ≡ true → (past_costs next.last ≡ true) × (next.costs ≡ given.costs)
   variables_stay : past_variables given.last ≡ true → (past_variables next.last ≡ true) × (variables_given next ≡ variables_given given)
+  prints : (costs : ℕ) (variables : List Variable) → (past_costs next.last ≡ true → length next.costs ≡ costs) → (past_variables next.last ≡ true → variables_given next ≡ variables) →
+      next.printed ≡ print_more given.printed (statement_line costs variables statement)
 
 -- which statements may be last before one of each kind
 
@@ -254,6 +258,7 @@ taken_header given arguments rule order none =
       rule_comes = λ is. absurd cc;
       costs_stay = λ past. true_and_false (past_costs given.last) (ap past_costs words.0) past;
       variables_stay = λ past. true_and_false (past_variables given.last) (ap past_variables words.0) past;
+      prints = λ costs variables same same_variables. refl;
     }
 
 taken_cost : (given : Given) (arguments : List (List ℕ)) (rule : Result Rule Kind) → InOrder given.last given → NoFault given (Some keyword.Cost) arguments rule →
@@ -269,6 +274,7 @@ taken_cost given arguments rule order none =
       rule_comes = λ is. absurd cc;
       costs_stay = λ past. true_and_false (past_costs given.last) before.4 past;
       variables_stay = λ past. true_and_false (past_variables given.last) before.5 past;
+      prints = λ costs variables same same_variables. refl;
     }
 
 taken_variable : (given : Given) (arguments : List (List ℕ)) (rule : Result Rule Kind) → InOrder given.last given → NoFault given (Some keyword.Variable) arguments rule →
@@ -286,6 +292,7 @@ taken_variable given arguments rule order none =
       rule_comes = λ is. absurd cc;
       costs_stay = λ past. (refl, refl);
       variables_stay = λ past. true_and_false (past_variables given.last) before.2 past;
+      prints = λ costs variables same same_variables. refl;
     }
 
 taken_value : (given : Given) (arguments : List (List ℕ)) (rule : Result Rule Kind) → InOrder given.last given → NoFault given (Some keyword.Value) arguments rule →
@@ -304,6 +311,7 @@ taken_value given arguments rule order none =
       rule_comes = λ is. absurd cc;
       costs_stay = λ past. (refl, refl);
       variables_stay = λ past. true_and_false (past_variables given.last) before.2 past;
+      prints = λ costs variables same same_variables. ap (λ n. print_more given.printed (value_line n value)) (same refl);
     }
 
 taken_rule : (given : Given) (arguments : List (List ℕ)) (rule : Result Rule Kind) → InOrder given.last given → NoFault given (Some keyword.Rule) arguments rule →
@@ -319,6 +327,7 @@ taken_rule given arguments (Ok rule) order none =
       rule_comes = λ is. (refl, append-nil (variables_given given));
       costs_stay = λ past. (refl, refl);
       variables_stay = λ past. (refl, append-nil (variables_given given));
+      prints = λ costs variables same same_variables. ap (λ vs. print_more given.printed (rule_line vs rule)) (sym (append-nil (variables_given given)) ∙ same_variables refl);
     }
 
 taken_end : (given : Given) (arguments : List (List ℕ)) (rule : Result Rule Kind) → InOrder given.last given → NoFault given (Some keyword.End) arguments rule →
@@ -333,6 +342,7 @@ taken_end given arguments rule order none =
       rule_comes = λ is. absurd cc;
       costs_stay = λ past. (refl, refl);
       variables_stay = λ past. (refl, append-nil (variables_given given));
+      prints = λ costs variables same same_variables. refl;
     }
 
 taken : (given : Given) (word : Option Keyword) (arguments : List (List ℕ)) (rule : Result Rule Kind) → InOrder given.last given → NoFault given word arguments rule →
@@ -398,19 +408,22 @@ means_over costs word arguments read read' same (a_rule rule) m = (m.0, same m.0
 means_over costs word arguments read read' same end m = m
 
 -- lines without a fault say some statements of the file that they give, which come after those so far
-abbrev SaysRest : Contents → List (List ℕ) → List Statement → List Statement → Type 0
-SaysRest file all before whole = (rest : List Statement) × AllZip (Says file) (filter is_significant all) rest × (before ++ rest ≡ whole)
+abbrev SaysRest : Contents → List (List ℕ) → Given → Given → Type 0
+SaysRest file all given last =
+    (rest : List Statement) × AllZip (Says file) (filter is_significant all) rest × (so_far given ++ rest ≡ so_far last)
+    × (print_all given.printed (map (statement_line (length file.costs) file.variables) rest) ≡ last.printed)
 
 says_rest : (given : Given) (all : List (List ℕ)) (last : Given) → given_from given all ≡ last → 1 ≤ length last.costs → length last.costs ≤ 2 → InOrder given.last given → Faultless given all →
-    SaysRest (contents_given last) all (so_far given) (so_far last)
-says_rest given [] last ends low high order none = ([], tt, append-nil (so_far given) ∙ ap so_far (sym (given_from-nil given) ∙ ends))
+    SaysRest (contents_given last) all given last
+says_rest given [] last ends low high order none = 
+    ([], tt, append-nil (so_far given) ∙ ap so_far (sym (given_from-nil given) ∙ ends), ap (λ (g : Given). g.printed) (sym (given_from-nil given) ∙ ends))
 says_rest given (line ∷ later) last ends low high order none =
     let ends_later : given_from (give_line given line) later ≡ last = sym (given_from-cons given line later) ∙ ends in
     elim (cases_Bool (is_skipped line)) [
       | inl is ↦
           let same = skipped_give given line is in
           let rest = says_rest given later last (ap (λ g. given_from g later) (sym same) ∙ ends_later) low high order (subst (λ g. Faultless g later) same none.1) in
-          (rest.0, subst (λ ls. AllZip (Says (contents_given last)) ls rest.0) (sym (skipped_lines line later is)) rest.1, rest.2)
+          (rest.0, subst (λ ls. AllZip (Says (contents_given last)) ls rest.0) (sym (skipped_lines line later is)) rest.1, rest.2, rest.3)
       | inr is ↦
           let file = contents_given last in
           let next = give_line given line in
@@ -418,6 +431,9 @@ says_rest given (line ∷ later) last ends low high order none =
           let rest = says_rest next later last ends_later low high t.in_order none.1 in
           let costs = length last.costs in
           let costs_are : past_costs next.last ≡ true → length next.costs ≡ costs = λ past. ap length (sym (costs_stay next later t.in_order none.1 past) ∙ ap (λ (g : Given). g.costs) ends_later) in
+          let variables_are : past_variables next.last ≡ true → variables_given next ≡ file.variables = λ past. sym (variables_stay next later t.in_order none.1 past) ∙ ap variables_given ends_later in
+          let lines = map (statement_line costs file.variables) rest.0 in
+          let printed = ap (λ p. print_all p lines) (sym (t.prints costs file.variables costs_are variables_are)) ∙ rest.3 in
           let read = rule_at (variables_given given) line in
           let read' = rule_at file.variables line in
           let reads : keyword_at line ≡ Some keyword.Rule → read' ≡ read = λ rule.
@@ -425,7 +441,7 @@ says_rest given (line ∷ later) last ends low high order none =
           let means = means_over costs (keyword_at line) (arguments_at line) read read' reads t.statement (t.means costs low high costs_are) in
           let says = means_says file line t.statement is means in
           let grown = sym (append_assoc (so_far given) (t.statement ∷ []) rest.0) ∙ ap (λ l. l ++ rest.0) (sym t.grows) ∙ rest.2 in
-          (t.statement ∷ rest.0, subst (λ ls. AllZip (Says file) ls (t.statement ∷ rest.0)) (sym (kept_lines line later is)) (says, rest.1), grown)
+          (t.statement ∷ rest.0, subst (λ ls. AllZip (Says file) ls (t.statement ∷ rest.0)) (sym (kept_lines line later is)) (says, rest.1), grown, printed)
     ]
 
 -- the last statement is `end`
@@ -453,11 +469,31 @@ so_far-end given is =
     let rules = map a_rule given.rules in
     ap (λ l. begun l ++ costs ++ variables ++ rules ++ ended l) is ∙ regroup (header ∷ []) costs variables rules (end ∷ [])
 
+-- the limits of the printed form are kept to the end
+
+printed_line : (given : Given) (line : List ℕ) → print_fault given.printed ≡ None → line_fault given line ≡ None → print_fault (give_line given line).printed ≡ None
+printed_line given line printed none =
+    elim (cases_Bool (is_skipped line)) [
+      | inl is ↦ ap (λ (g : Given). print_fault g.printed) (skipped_give given line is) ∙ printed
+      | inr is ↦
+          let parts = statement_parts given (keyword_at line) (arguments_at line) (rule_at (variables_given given) line) (sym (kept_fault given line is) ∙ none) in
+          ap (λ (g : Given). print_fault g.printed) (kept_give given line is) ∙ parts.prints
+    ]
+
+printed_to_end : (given : Given) (all : List (List ℕ)) → print_fault given.printed ≡ None → Faultless given all → print_fault (given_from given all).printed ≡ None
+printed_to_end given [] printed none = ap (λ (g : Given). print_fault g.printed) (given_from-nil given) ∙ printed
+printed_to_end given (line ∷ later) printed none =
+    ap (λ (g : Given). print_fault g.printed) (given_from-cons given line later) ∙ printed_to_end (give_line given line) later (printed_line given line printed none.0) none.1
+
 pub no_fault_is_spelled : (text : List ℕ) → first_fault text ≡ None → Spells text (contents_given (given_by text))
 no_fault_is_spelled text none =
-    let is : IsFile (contents_given (given_by text)) = no_fault_is_file text none in
     let parts = no_fault_parts text none in
     let last = given_by text in
-    let rest = says_rest nothing_given (lines text) last refl is.some_cost is.costs_at_most (refl, refl, refl, refl) parts.1 in
-    let whole : rest.0 ≡ statements (contents_given last) = rest.2 ∙ so_far-end last (last_end last.last (ends nothing_given (lines text) parts.1)) in
-    record { is_small = parts.0; is_file = is; says = subst (AllZip (Says (contents_given last)) (significant_lines text)) whole rest.1 }
+    let file = contents_given last in
+    let costs = no_fault_has_costs text none in
+    let rest = says_rest nothing_given (lines text) last refl costs.0 costs.1 (refl, refl, refl, refl) parts.1 in
+    let whole : rest.0 ≡ statements file = rest.2 ∙ so_far-end last (last_end last.last (ends nothing_given (lines text) parts.1)) in
+    let counted = without_fault last.printed (printed_to_end nothing_given (lines text) refl parts.1) in
+    let printed = ap (λ ss. print_all (Some 0) (map (statement_line (length file.costs) file.variables) ss)) (sym whole) ∙ rest.3 ∙ counted.1 in
+    let is : IsFile file = no_fault_is_file text none (printed_so file counted.0 printed) in
+    record { is_small = parts.0; is_file = is; says = subst (AllZip (Says file) (significant_lines text)) whole rest.1 }

@@ -22,7 +22,7 @@ use Rattle.pc_text.specs.Given.{catalogue_of}
 use Rattle.pc_text.specs.FirstFault.{first_fault, given_by}
 use Rattle.pc_text.specs.Given.{contents_given}
 use Rattle.pc_text.specs.LineWords.{first_word, from_word, after_word}
-use Rattle.pc_text.specs.Printable.{has_names, IsPrintable}
+use Rattle.pc_text.specs.Printable.{has_names}
 use Rattle.pc_text.specs.Spells.{is_small_line, is_significant, Spells}
 use Rattle.pc_text.specs.Statement.{Statement, header, a_cost, a_variable, a_value, a_rule, end, variable_statements, statements, value_words, Says}
 use Rattle.pc_text.proofs.Meanings.{says_means}
@@ -207,29 +207,29 @@ module _ (file : Contents) (is : IsFile file) (named : has_names file ≡ true) 
       let f = length-variables file.variables (each_sized file.variables is.each_variable) in
       omega (arith, a, b, c, d, e, f, is.costs_at_most, is.variables_at_most, is.rules_at_most)
 
-  pub printed_spells : IsPrintable file → Spells (printed file) file
-  printed_spells printable =
+  pub printed_spells : Spells (printed file) file
+  printed_spells =
       let same = lines_of_text (printed_lines file) (statements file) all_print in
       let count = ap (filter is_significant) same ∙ all_count (printed_lines file) (statements file) all_print in
       record {
         is_small = record {
-          bytes_at_most = printable.bytes_at_most;
+          bytes_at_most = is.printable.bytes_at_most;
           lines_at_most = subst (λ (ls : List (List ℕ)). length ls ≤ 8192) (sym same) few_lines;
-          each_line = subst (λ (ls : List (List ℕ)). list_all is_small_line ls ≡ true) (sym same) printable.each_line;
+          each_line = subst (λ (ls : List (List ℕ)). list_all is_small_line ls ≡ true) (sym same) is.printable.each_line;
         };
         is_file = is;
         says = subst (λ (ls : List (List ℕ)). AllZip (Says file) ls (statements file)) (sym count) (all_say (printed_lines file) (statements file) all_print);
       }
 
 -- no other file has it
-pub printed_once : (first second : Contents) → IsFile first → IsFile second → has_names first ≡ true → has_names second ≡ true → IsPrintable first → IsPrintable second → printed first ≡ printed second → first ≡ second
-printed_once first second is is' named named' printable printable' same =
-    spelled_once (printed second) first second (subst (λ (t : List ℕ). Spells t first) same (printed_spells first is named printable)) (printed_spells second is' named' printable')
+pub printed_once : (first second : Contents) → IsFile first → IsFile second → has_names first ≡ true → has_names second ≡ true → printed first ≡ printed second → first ≡ second
+printed_once first second is is' named named' same =
+    spelled_once (printed second) first second (subst (λ (t : List ℕ). Spells t first) same (printed_spells first is named)) (printed_spells second is' named')
 
 -- it is read without a fault, as that file
-pub printed_is_read : (file : Contents) → IsFile file → has_names file ≡ true → IsPrintable file → (first_fault (printed file) ≡ None) × (contents_given (given_by (printed file)) ≡ file)
-printed_is_read file is named printable = spelled_has_no_fault (printed file) file (printed_spells file is named printable)
+pub printed_is_read : (file : Contents) → IsFile file → has_names file ≡ true → (first_fault (printed file) ≡ None) × (contents_given (given_by (printed file)) ≡ file)
+printed_is_read file is named = spelled_has_no_fault (printed file) file (printed_spells file is named)
 
 -- what is written spells the file whose names were written
-pub written_spells : (text : List ℕ) (file : Contents) → text ≡ printed file → IsFile file → has_names file ≡ true → IsPrintable file → Spells text file
-written_spells text file same is named printable = subst (λ (t : List ℕ). Spells t file) (sym same) (printed_spells file is named printable)
+pub written_spells : (text : List ℕ) (file : Contents) → text ≡ printed file → IsFile file → has_names file ≡ true → Spells text file
+written_spells text file same is named = subst (λ (t : List ℕ). Spells t file) (sym same) (printed_spells file is named)

@@ -17,6 +17,7 @@ use Rattle.pc_file.specs.declared.rule.Rule.{Rule}
 use Rattle.pc_file.specs.declared.variable.Value.{Value}
 use Rattle.pc_file.specs.declared.variable.Variable.{Variable}
 use Rattle.pc_file.specs.Limits.{IsFile, is_cost, is_reserved, is_value, is_sized, is_variable, value_names, variable_names, values_differ, names_differ, is_rule}
+use Rattle.pc_file.specs.PrintedSize.{IsPrintable}
 use Rattle.pc_file.specs.Spelling.{same_spelling}
 use Rattle.pc_file.proofs.NamesLemmas.{same_spelling-symmetric}
 use Rattle.pc_text.specs.declared.keyword.Keyword.{Keyword}
@@ -24,7 +25,7 @@ use Rattle.pc_text.specs.declared.keyword.Keyword.TheVariants as keyword
 use Rattle.pc_rules.specs.declared.kind.Kind.{Kind}
 use Rattle.pc_text.specs.LineWords.{after_word}
 use Rattle.pc_text.specs.Given.{Given, nothing_given, variables_given, contents_given, catalogue_of, is_skipped, keyword_at, arguments_at, argument, value_given, with_value, give, give_rule, give_statement}
-use Rattle.pc_text.specs.Orders.{first_standing, is_wrong_header, comes_wrong, is_malformed, keeps_range, is_cost_text, has_wrong_number, is_one_too_many, is_repeated, orders, rule_fault, fault_of_rule, or_else, statement_fault}
+use Rattle.pc_text.specs.Orders.{first_standing, is_wrong_header, comes_wrong, is_malformed, keeps_range, is_cost_text, has_wrong_number, is_one_too_many, is_repeated, orders, rule_fault, fault_of_rule, print_fault, or_else, statement_fault}
 use Rattle.pc_text.specs.FirstFault.{is_large, size_fault, line_fault, give_line, end_fault, at, or_later, fault_from, given_from, first_fault, given_by}
 use Rattle.pc_rules.specs.RuleText.{rule_of}
 use Rattle.pc_rules.proofs.RuleRead.{rule_of-read, rule_fits}
@@ -421,8 +422,9 @@ nothing_comes (Some keyword.End) some comes = cc
 module _ (given : Given) (arguments : List (List ℕ)) (s : Sound given) where
   told_none : (word : Option Keyword) (rule : Result Rule Kind) → statement_fault given word arguments rule ≡ None → Allowed given word arguments × (fault_of_rule word rule ≡ None)
   told_none word rule none =
-      let parts = or_else_parts (first_standing (orders given word arguments)) (fault_of_rule word rule) none in
-      (allowed given word arguments parts.0, parts.1)
+      let prints = print_fault (give_statement given word arguments rule).printed in
+      let parts = or_else_parts (first_standing (orders given word arguments)) (or_else (fault_of_rule word rule) prints) none in
+      (allowed given word arguments parts.0, (or_else_parts (fault_of_rule word rule) prints parts.1).0)
 
   given_some_rule : (rule : Result Rule Kind) → ((r : Rule) → rule ≡ Ok r → is_rule (variables_given given) r ≡ true) → Allowed given (Some keyword.Rule) arguments → rule_fault rule ≡ None → Sound (give_rule given rule)
   given_some_rule (Ok rule) sound a none = given_rule given rule arguments s a (sound rule refl)
@@ -483,8 +485,8 @@ given_lines given number start total (line ∷ later) s none =
     let fine = or_else_parts (size_fault (is_large number (min (start + length line + 1) total) line)) (line_fault given line) parts.0 in
     given_lines (give_line given line) (number + 1) (start + length line + 1) total later (given_line given line s fine.1) parts.1
 
-complete_file : (given : Given) → Sound given → Complete given → IsFile (contents_given given)
-complete_file given s c =
+complete_file : (given : Given) → Sound given → Complete given → IsPrintable (contents_given given) → IsFile (contents_given given)
+complete_file given s c printable =
     let r = complete_ready given c in
     record {
       some_cost = c.some_cost;
@@ -496,10 +498,20 @@ complete_file given s c =
       each_variable = r.each_variable;
       rules_at_most = s.rules_at_most;
       each_rule = s.each_rule;
+      printable = printable;
     }
 
--- a text without a fault gives a file
-pub no_fault_is_file : (text : List ℕ) → first_fault text ≡ None → IsFile (contents_given (given_by text))
-no_fault_is_file text none =
-    let done = given_lines nothing_given 1 0 (length text) (lines text) nothing_sound none in
-    complete_file (given_by text) done.0 (subst (Stage (given_by text)) done.1 done.0.stage)
+module _ (text : List ℕ) (none : first_fault text ≡ None) where
+  done : Sound (given_by text) × ((given_by text).last ≡ Some keyword.End)
+  done = given_lines nothing_given 1 0 (length text) (lines text) nothing_sound none
+
+  complete : Complete (given_by text)
+  complete = subst (Stage (given_by text)) done.1 done.0.stage
+
+  -- a text without a fault gives one cost or two
+  pub no_fault_has_costs : (1 ≤ length (given_by text).costs) × (length (given_by text).costs ≤ 2)
+  no_fault_has_costs = (complete.some_cost, done.0.costs_at_most)
+
+  -- and a file, where its printed form keeps the limits
+  pub no_fault_is_file : IsPrintable (contents_given (given_by text)) → IsFile (contents_given (given_by text))
+  no_fault_is_file = complete_file (given_by text) done.0 complete

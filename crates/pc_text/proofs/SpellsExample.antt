@@ -5,6 +5,7 @@ use Rattle.std.specs.Fmt.{digits}
 use Rattle.std.specs.List.{AllZip}
 use Rattle.pc_base.specs.Lines.{lines}
 use Rattle.pc_file.specs.Limits.{Contents, IsFile}
+use Rattle.pc_file.specs.PrintedSize.{IsPrintable}
 use Rattle.pc_text.specs.LineWords.{words, first_word, from_word}
 use Rattle.pc_text.specs.Statement.{Says, statements}
 use Rattle.pc_text.specs.Spells.{IsSmallText, Spells, significant_lines}
@@ -24,6 +25,10 @@ is_small : IsSmallText spelling
 unfolding lines
 is_small = record { bytes_at_most = omega arith; lines_at_most = omega arith; each_line = refl }
 
+is_printable : IsPrintable smallest
+unfolding digits
+is_printable = record { each_line = refl; bytes_at_most = omega arith }
+
 is_file : IsFile smallest
 is_file = record {
   some_cost = omega arith;
@@ -35,6 +40,7 @@ is_file = record {
   each_variable = refl;
   rules_at_most = omega arith;
   each_rule = refl;
+  printable = is_printable;
 }
 
 says : AllZip (Says smallest) (significant_lines spelling) (statements smallest)

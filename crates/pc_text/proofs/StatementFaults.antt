@@ -4,8 +4,8 @@ use Rattle.pc_file.specs.declared.rule.Rule.{Rule}
 use Rattle.pc_text.specs.declared.keyword.Keyword.{Keyword}
 use Rattle.pc_rules.specs.declared.kind.Kind.{Kind}
 use Rattle.pc_rules.specs.declared.kind.Kind.TheVariants as kind
-use Rattle.pc_text.specs.Given.{Given}
-use Rattle.pc_text.specs.Orders.{first_standing, is_wrong_header, comes_wrong, expected_after, is_malformed, kind_named, has_wrong_number, is_one_too_many, is_repeated, orders, fault_of_rule, or_else, statement_fault}
+use Rattle.pc_text.specs.Given.{Given, give_statement}
+use Rattle.pc_text.specs.Orders.{first_standing, is_wrong_header, comes_wrong, expected_after, is_malformed, kind_named, has_wrong_number, is_one_too_many, is_repeated, orders, fault_of_rule, print_fault, or_else, statement_fault}
 
 -- each thing that may be wrong isn't
 pub record NoFault (given : Given) (word : Option Keyword) (arguments : List (List ℕ)) (rule : Result Rule Kind) : Type 0 where
@@ -16,6 +16,7 @@ pub record NoFault (given : Given) (word : Option Keyword) (arguments : List (Li
   pub fits : is_one_too_many given word ≡ false
   pub new : is_repeated given word arguments ≡ false
   pub reads : fault_of_rule word rule ≡ None
+  pub prints : print_fault (give_statement given word arguments rule).printed ≡ None
 
 first_parts : (stands : Bool) (kind : Kind) (rest : List (Bool × Kind)) → first_standing ((stands, kind) ∷ rest) ≡ None → (stands ≡ false) × (first_standing rest ≡ None)
 first_parts true kind rest e = absurd cc
@@ -51,14 +52,16 @@ module _ (given : Given) (word : Option Keyword) (arguments : List (List ℕ)) (
 
   pub no_fault_parts : statement_fault given word arguments rule ≡ None → NoFault given word arguments rule
   no_fault_parts none =
-      let both = or_else_parts (first_standing (orders given word arguments)) (fault_of_rule word rule) none in
+      let prints = print_fault (give_statement given word arguments rule).printed in
+      let both = or_else_parts (first_standing (orders given word arguments)) (or_else (fault_of_rule word rule) prints) none in
+      let last = or_else_parts (fault_of_rule word rule) prints both.1 in
       let a = first_parts (is_wrong_header given word arguments) kind.Header second both.0 in
       let b = first_parts (comes_wrong given.last word) (expected_after given.last) third a.1 in
       let c = first_parts (is_malformed given word arguments) (kind_named word) fourth b.1 in
       let d = first_parts (has_wrong_number word arguments) kind.Number fifth c.1 in
       let e = first_parts (is_one_too_many given word) kind.Size sixth d.1 in
       let f = first_parts (is_repeated given word arguments) kind.Repeat [] e.1 in
-      record { heads = a.0; comes = b.0; formed = c.0; numbers = d.0; fits = e.0; new = f.0; reads = both.1 }
+      record { heads = a.0; comes = b.0; formed = c.0; numbers = d.0; fits = e.0; new = f.0; reads = last.0; prints = last.1 }
 
   pub no_fault : NoFault given word arguments rule → statement_fault given word arguments rule ≡ None
   no_fault h =
@@ -68,4 +71,5 @@ module _ (given : Given) (word : Option Keyword) (arguments : List (List ℕ)) (
       let c = first_none (is_malformed given word arguments) (kind_named word) fourth h.formed d in
       let b = first_none (comes_wrong given.last word) (expected_after given.last) third h.comes c in
       let a = first_none (is_wrong_header given word arguments) kind.Header second h.heads b in
-      or_else_none (first_standing (orders given word arguments)) (fault_of_rule word rule) a h.reads
+      let prints = print_fault (give_statement given word arguments rule).printed in
+      or_else_none (first_standing (orders given word arguments)) (or_else (fault_of_rule word rule) prints) a (or_else_none (fault_of_rule word rule) prints h.reads h.prints)

@@ -12,7 +12,7 @@ use Rattle.pc_text.specs.declared.keyword.Keyword.TheVariants as keyword
 use Rattle.pc_rules.specs.declared.kind.Kind.{Kind}
 use Rattle.pc_rules.specs.declared.kind.Kind.TheVariants as kind
 use Rattle.pc_text.specs.Keyword.{follows, expected, named}
-use Rattle.pc_text.specs.Given.{Given, variables_given, argument}
+use Rattle.pc_text.specs.Given.{Given, variables_given, argument, give_statement}
 
 -- Faults with their kinds, in the order in which they are told: the first that stands.
 abbrev pub first_standing : List (Bool × Kind) → Option Kind
@@ -105,6 +105,12 @@ abbrev pub or_else : Option Kind → Option Kind → Option Kind
 or_else None other = other
 or_else (Some kind) other = Some kind
 
--- the fault of a statement
+-- a printed line that breaks a limit
+abbrev pub print_fault : Option ℕ → Option Kind
+print_fault None = Some kind.Size
+print_fault (Some bytes) = None
+
+-- the fault of a statement: of its words, then of its rule, then of its printed line
 abbrev pub statement_fault : Given → Option Keyword → List (List ℕ) → Result Rule Kind → Option Kind
-statement_fault given word arguments rule = or_else (first_standing (orders given word arguments)) (fault_of_rule word rule)
+statement_fault given word arguments rule =
+    or_else (first_standing (orders given word arguments)) (or_else (fault_of_rule word rule) (print_fault (give_statement given word arguments rule).printed))

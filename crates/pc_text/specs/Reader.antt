@@ -1,5 +1,5 @@
 -- What contracts see of a reader, and what it keeps.
-use Rattle.std.specs.Prelude.{◌≡◌, ℕ, Bool, nat_le, List, [], ◌∷◌, ◌++◌, length, map, option_map}
+use Rattle.std.specs.Prelude.{◌≡◌, ℕ, Bool, nat_le, List, [], ◌∷◌, ◌++◌, length, map, Some, option_map}
 use Rattle.std.specs.Option.{option_to_list, IfSome}
 use Rattle.std.specs.List.{list_any}
 use Rattle.pc_file.specs.Spelling.{same_spelling}
@@ -16,7 +16,7 @@ abbrev pub opened : OpenVariable → Variable
 opened open_variable = record { name = open_variable.name; values = open_variable.values }
 
 abbrev pub given_of : Reader → Given
-given_of r = record { last = r.last; costs = r.costs; closed = r.closed; open_variable = option_map opened r.open_variable; rules = r.rules }
+given_of r = record { last = r.last; costs = r.costs; closed = r.closed; open_variable = option_map opened r.open_variable; rules = r.rules; printed = Some r.printed }
 
 -- its names stand in its set, in the order of its values
 abbrev pub IsListed : OpenVariable → Type 0

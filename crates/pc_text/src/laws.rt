@@ -5,7 +5,7 @@ ghost use Rattle.pc_file.specs.Limits.{Contents, IsFile};
 ghost use Rattle.pc_file.specs.PrintedForm.{printed};
 ghost use Rattle.pc_text.specs.FirstFault.{first_fault, given_by};
 ghost use Rattle.pc_text.specs.Given.{contents_given};
-ghost use Rattle.pc_text.specs.Printable.{IsPrintable, has_names};
+ghost use Rattle.pc_text.specs.Printable.{has_names};
 ghost use Rattle.pc_text.specs.Spells.{Spells};
 
 /// A text spells one file at most.
@@ -17,9 +17,9 @@ pub fn text_tells_file()
 /// The printed form of a file spells the file: it has no fault, what it gives is the file, and no other file has it.
 #[tactic(auto, using(crate::proofs::PrintedSpells::printed_spells, crate::proofs::PrintedSpells::printed_once))]
 pub fn printed_form_spells_file()
-    ensures spells { (file : Contents) → IsFile file → has_names file ≡ true → IsPrintable file → Spells (printed file) file }
-    ensures read { (file : Contents) → IsFile file → has_names file ≡ true → IsPrintable file
+    ensures spells { (file : Contents) → IsFile file → has_names file ≡ true → Spells (printed file) file }
+    ensures read { (file : Contents) → IsFile file → has_names file ≡ true
         → (first_fault (printed file) ≡ None) × (contents_given (given_by (printed file)) ≡ file) }
     ensures once { (file other : Contents) → IsFile file → IsFile other → has_names file ≡ true → has_names other ≡ true
-        → IsPrintable file → IsPrintable other → printed file ≡ printed other → file ≡ other }
+        → printed file ≡ printed other → file ≡ other }
 {}

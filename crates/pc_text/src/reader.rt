@@ -6,9 +6,10 @@ ghost use Rattle.std.specs.List.{list_all, list_any};
 ghost use Rattle.pc_file.specs.Spelling.{same_spelling};
 ghost use Rattle.pc_text.specs.Arguments.{bytes, IsOnlyFreeName, IsOnlyName, IsValueOf};
 ghost use Rattle.pc_file.specs.declared.rule.Rule.{Rule};
+ghost use Rattle.pc_file.specs.PrintedSize.{with_line};
 ghost use Rattle.pc_rules.specs.declared.kind.Kind.{Kind};
 ghost use Rattle.pc_text.specs.Given.{argument, catalogue_of, contents_given, give, give_rule, give_statement, number_at, variables_given, with_value};
-ghost use Rattle.pc_text.specs.Orders.{is_cost_text, fault_of_rule, first_standing, or_else, orders_within, rule_fault, statement_fault};
+ghost use Rattle.pc_text.specs.Orders.{is_cost_text, fault_of_rule, first_standing, or_else, orders_within, print_fault, rule_fault, statement_fault};
 ghost use Rattle.pc_text.specs.FirstFault.{line_fault, give_line};
 ghost use Rattle.std.specs.Option.{option_to_list};
 ghost use Rattle.pc_file.specs.Products.{value_counts, word_count};
@@ -27,7 +28,10 @@ use crate::line_words::{cut_word, words};
 use pc_rules::read_rule;
 use crate::statement::is_cost_text;
 use pc_base::{NoMemory, Sequence};
-use pc_file::{Catalogue, File, FileFault, Names, Rule, Value, Variable, is_reserved};
+use pc_file::{
+    Catalogue, File, FileFault, Names, Rule, Value, Variable, cost_line_size, end_line_size,
+    header_line_size, is_reserved, rule_line_size, value_line_size, variable_line_size, with_line,
+};
 use pc_names::{Name, read_int};
 use std::alloc::Global;
 
@@ -59,7 +63,8 @@ impl OpenVariable {
     }
 }
 
-/// What the statements so far give, with the names found by their hashes.
+/// What the statements so far give, with the names found by their hashes, and the bytes of their printed lines with
+/// the line feeds.
 #[derive(Debug, Drop)]
 pub struct Reader {
     last: Option<Keyword>,
@@ -68,6 +73,7 @@ pub struct Reader {
     open_variable: Option<OpenVariable>,
     rules: Sequence<Rule>,
     names: Catalogue,
+    printed: usize,
 }
 
 impl Reader {
@@ -85,6 +91,7 @@ impl Reader {
             open_variable: None,
             rules: Sequence::new(alloc),
             names: Catalogue::new(alloc),
+            printed: 0,
         }
     }
 
@@ -162,27 +169,29 @@ impl Reader {
     /// A first line that begins with `product`.
     fn take_header(&mut self, arguments: &[&[u8]]) -> Result<(), RuleFault>
         requires { IsIndexed self.old }
-        ensures { Answers result (first_standing ((not ((length (bytes arguments.now) == 1) && same_spelling (argument (bytes arguments.now) 0) (codes "1")), Header) ∷ []))
+        ensures { Answers result (or_else (first_standing ((not ((length (bytes arguments.now) == 1) && same_spelling (argument (bytes arguments.now) 0) (codes "1")), Header) ∷ []))
+                (print_fault (give (given_of self.old) (Some Keyword.Product) (bytes arguments.now)).printed))
             (Holds self.new (give (given_of self.old) (Some Keyword.Product) (bytes arguments.now))) }
     {
         if arguments.len() != 1 || argument(arguments, 0) != b"1".as_slice() {
             return Err(RuleFault::Fault(Kind::Header));
         }
         self.last = Some(Keyword::Product);
-        Ok(())
+        self.print(header_line_size())
     }
 
     /// A statement that may come here.
     fn take_allowed(&mut self, alloc: Global, word: Keyword, text: &[u8]) -> Result<(), RuleFault>
         requires { IsIndexed self.old }
         ensures { let given = given_of self.old in let rule = rule_of (catalogue_of (variables_given given)) text.now in
-            Answers result (or_else (first_standing (orders_within given (Some word) (words text.now))) (fault_of_rule (Some word) rule))
+            Answers result (or_else (first_standing (orders_within given (Some word) (words text.now)))
+                (or_else (fault_of_rule (Some word) rule) (print_fault (give_statement given (Some word) (words text.now) rule).printed)))
             (Holds self.new (give_statement given (Some word) (words text.now) rule)) }
     {
         match word {
             Keyword::Product => {
                 self.last = Some(Keyword::Product);
-                Ok(())
+                self.print(header_line_size())
             }
             Keyword::Cost => self.take_cost(&words(alloc, text)?),
             Keyword::Variable => self.take_variable(alloc, &words(alloc, text)?),
@@ -212,7 +221,8 @@ impl Reader {
     /// A line `cost NAME`.
     fn take_cost(&mut self, arguments: &[&[u8]]) -> Result<(), RuleFault>
         requires { IsIndexed self.old }
-        ensures { Answers result (first_standing (orders_within (given_of self.old) (Some Keyword.Cost) (bytes arguments.now)))
+        ensures { Answers result (or_else (first_standing (orders_within (given_of self.old) (Some Keyword.Cost) (bytes arguments.now)))
+                (print_fault (give (given_of self.old) (Some Keyword.Cost) (bytes arguments.now)).printed))
             (Holds self.new (give (given_of self.old) (Some Keyword.Cost) (bytes arguments.now))) }
     {
         let name = only_name(arguments).ok_or(RuleFault::Fault(Kind::Cost))?;
@@ -224,13 +234,14 @@ impl Reader {
         }
         self.costs.push(name)?;
         self.last = Some(Keyword::Cost);
-        Ok(())
+        self.print(cost_line_size(&name))
     }
 
     /// A line `variable NAME`.
     fn take_variable(&mut self, alloc: Global, arguments: &[&[u8]]) -> Result<(), RuleFault>
         requires { IsIndexed self.old }
-        ensures { Answers result (first_standing (orders_within (given_of self.old) (Some Keyword.Variable) (bytes arguments.now)))
+        ensures { Answers result (or_else (first_standing (orders_within (given_of self.old) (Some Keyword.Variable) (bytes arguments.now)))
+                (print_fault (give (given_of self.old) (Some Keyword.Variable) (bytes arguments.now)).printed))
             (Holds self.new (give (given_of self.old) (Some Keyword.Variable) (bytes arguments.now))) }
     {
         let name = only_free_name(arguments).ok_or(RuleFault::Fault(Kind::Variable))?;
@@ -247,27 +258,30 @@ impl Reader {
             names: Names::new(alloc),
         });
         self.last = Some(Keyword::Variable);
-        Ok(())
+        self.print(variable_line_size(&name))
     }
 
     /// A line `value NAME NUMBER` or `value NAME NUMBER NUMBER`.
     fn take_value(&mut self, arguments: &[&[u8]]) -> Result<(), RuleFault>
         requires { IsIndexed self.old }
-        ensures { Answers result (first_standing (orders_within (given_of self.old) (Some Keyword.Value) (bytes arguments.now)))
+        ensures { Answers result (or_else (first_standing (orders_within (given_of self.old) (Some Keyword.Value) (bytes arguments.now)))
+                (print_fault (give (given_of self.old) (Some Keyword.Value) (bytes arguments.now)).printed))
             (Holds self.new (give (given_of self.old) (Some Keyword.Value) (bytes arguments.now))) }
     {
         let value = value_of(arguments, self.costs.len())?;
+        let size = value_line_size(self.costs.len(), &value);
         if let Some(variable) = &mut self.open_variable {
             variable.add(value)?;
         }
         self.last = Some(Keyword::Value);
-        Ok(())
+        self.print(size)
     }
 
     /// A line `end`.
     fn take_end(&mut self, arguments: &[&[u8]]) -> Result<(), RuleFault>
         requires { IsIndexed self.old }
-        ensures { Answers result (first_standing (orders_within (given_of self.old) (Some Keyword.End) (bytes arguments.now)))
+        ensures { Answers result (or_else (first_standing (orders_within (given_of self.old) (Some Keyword.End) (bytes arguments.now)))
+                (print_fault (give (given_of self.old) (Some Keyword.End) (bytes arguments.now)).printed))
             (Holds self.new (give (given_of self.old) (Some Keyword.End) (bytes arguments.now))) }
     {
         if !arguments.is_empty() {
@@ -275,14 +289,15 @@ impl Reader {
         }
         self.close()?;
         self.last = Some(Keyword::End);
-        Ok(())
+        self.print(end_line_size())
     }
 
     /// A line that begins with `rule`.
     fn take_rule(&mut self, alloc: Global, text: &[u8]) -> Result<(), RuleFault>
         requires { IsIndexed self.old }
         ensures { let rule = rule_of (catalogue_of (variables_given (given_of self.old))) text.now in
-            Answers result (or_else (first_standing (orders_within (given_of self.old) (Some Keyword.Rule) [])) (rule_fault rule))
+            Answers result (or_else (first_standing (orders_within (given_of self.old) (Some Keyword.Rule) []))
+                (or_else (rule_fault rule) (print_fault (give_rule (given_of self.old) rule).printed)))
             (Holds self.new (give_rule (given_of self.old) rule)) }
     {
         if self.rules.len() >= 1024 {
@@ -290,8 +305,18 @@ impl Reader {
         }
         self.close()?;
         let rule = read_rule(alloc, &self.names, text)?;
+        let size = rule_line_size(self.closed.as_slice(), &rule);
         self.rules.push(rule)?;
         self.last = Some(Keyword::Rule);
+        self.print(size)
+    }
+
+    /// Counts the printed line of a statement, of so many bytes.
+    fn print(&mut self, size: usize) -> Result<(), RuleFault>
+        requires { IsIndexed self.old }
+        ensures { Answers result (print_fault (with_line self.old.printed size)) (Holds self.new (record (given_of self.old) { printed = with_line self.old.printed size })) }
+    {
+        self.printed = with_line(self.printed, size).ok_or(RuleFault::Fault(Kind::Size))?;
         Ok(())
     }
 

@@ -192,6 +192,37 @@ fn a_text_has_at_most_a_mebibyte(rt: HostRuntime) -> Result<(), Fail> {
     Ok(())
 }
 
+/// A text of so many rules over a variable of this name, each a table of so many more rows than one, without spaces.
+fn dense(alloc: Global, name: &[u8], rules: u64, more: u64) -> Result<Text, NoMemory> {
+    let mut text = Text::from_slice(alloc, b"product 1\ncost price\nvariable ")?;
+    text.extend_from_slice(name)?;
+    text.extend_from_slice(b"\nvalue only 7\n")?;
+    for _ in 0..rules {
+        text.extend_from_slice(b"rule table(")?;
+        text.extend_from_slice(name)?;
+        text.extend_from_slice(b"){only")?;
+        repeat(&mut text, b",only", more)?;
+        text.extend_from_slice(b"}\n")?;
+    }
+    text.extend_from_slice(b"end\n")?;
+    Ok(text)
+}
+
+#[test]
+fn a_printed_line_and_the_printed_form_keep_their_limits(rt: HostRuntime) -> Result<(), Fail> {
+    let alloc = rt.alloc();
+    let texts: [(&[u8], u64, Option<(u64, Kind)>); 3] = [
+        (b"abc", 1, Some((5, Kind::Size))),
+        (b"ab", 15, None),
+        (b"ab", 16, Some((20, Kind::Size))),
+    ];
+    for (name, rules, fault) in texts.iter() {
+        let text = dense(alloc, name, *rules, 10_919)?;
+        assert_eq!(rt; fault_of(alloc, text.as_slice()), *fault);
+    }
+    Ok(())
+}
+
 /// The lines of the bike before its rules.
 const BIKE: &[u8] =
     b"product 1\ncost price\ncost days\nvariable frame\nvalue steel 300 2\nvalue alloy 500 1\nvalue carbon 900 5\nvariable wheel\nvalue w26 80 1\nvalue w28 120 1\nvariable light\nvalue none 0 0\nvalue led 40 1\n";

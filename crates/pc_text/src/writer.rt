@@ -7,7 +7,7 @@ ghost use Rattle.pc_file.specs.Limits.{IsFile};
 ghost use Rattle.pc_file.specs.PrintedForm.{cost_line, printed, rule_line, value_line, variable_line, with_feed};
 ghost use Rattle.pc_names.specs.Name.{is_name};
 ghost use Rattle.pc_rules.specs.Nameable.{is_named};
-ghost use Rattle.pc_text.specs.Printable.{IsPrintable, has_names};
+ghost use Rattle.pc_text.specs.Printable.{has_names};
 ghost use Rattle.pc_text.specs.Spells.{Spells};
 
 use pc_base::{NoMemory, Text};
@@ -21,7 +21,7 @@ use std::alloc::Global;
 pub fn write_file(alloc: Global, file: &File) -> Result<Text, NoMemory>
     ensures exact { IfOk result (λ text. text ≡ printed file.now) }
     // Reading it gives the file again, since a text spells one file at most.
-    ensures spells { IfOk result (λ text. IsPrintable file.now → Spells text file.now) }
+    ensures spells { IfOk result (λ text. Spells text file.now) }
 {
     written(alloc, file)
 }
