@@ -415,7 +415,7 @@ SaysRest file all given last =
 
 says_rest : (given : Given) (all : List (List ℕ)) (last : Given) → given_from given all ≡ last → 1 ≤ length last.costs → length last.costs ≤ 2 → InOrder given.last given → Faultless given all →
     SaysRest (contents_given last) all given last
-says_rest given [] last ends low high order none = 
+says_rest given [] last ends low high order none =
     ([], tt, append-nil (so_far given) ∙ ap so_far (sym (given_from-nil given) ∙ ends), ap (λ (g : Given). g.printed) (sym (given_from-nil given) ∙ ends))
 says_rest given (line ∷ later) last ends low high order none =
     let ends_later : given_from (give_line given line) later ≡ last = sym (given_from-cons given line later) ∙ ends in

@@ -10,7 +10,7 @@ use Rattle.pc_file.specs.declared.variable.Variable.{Variable}
 use Rattle.pc_file.specs.Contents.{Contents}
 use Rattle.pc_file.specs.Limits.{value_names}
 use Rattle.pc_rules.specs.Nameable.{is_named}
-use Rattle.pc_text.specs.Printable.{has_names}
+use Rattle.pc_text.specs.Named.{has_names}
 use Rattle.pc_file.specs.PrintedForm.{header_line, cost_line, variable_line, value_line, rule_line, end_line, variable_lines, with_feed, text_of_lines, printed}
 
 -- one item more of those that are gone through

@@ -4,8 +4,8 @@ pub mod FirstFault
 pub mod Given
 pub mod Keyword
 pub mod LineWords
+pub mod Named
 pub mod Orders
-pub mod Printable
 pub mod Reader
 pub mod Spells
 pub mod Statement

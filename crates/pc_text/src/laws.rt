@@ -5,7 +5,7 @@ ghost use Rattle.pc_file.specs.Limits.{Contents, IsFile};
 ghost use Rattle.pc_file.specs.PrintedForm.{printed};
 ghost use Rattle.pc_text.specs.FirstFault.{first_fault, given_by};
 ghost use Rattle.pc_text.specs.Given.{contents_given};
-ghost use Rattle.pc_text.specs.Printable.{has_names};
+ghost use Rattle.pc_text.specs.Named.{has_names};
 ghost use Rattle.pc_text.specs.Spells.{Spells};
 
 /// A text spells one file at most.

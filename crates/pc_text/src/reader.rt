@@ -21,11 +21,8 @@ ghost use Rattle.pc_text.specs.Told.{Answers};
 ghost use Rattle.pc_text.specs.declared.keyword.Keyword.TheVariants as keyword;
 
 use crate::crowding::words_before;
-use pc_rules::RuleFault;
 use crate::keyword::Keyword;
-use pc_rules::Kind;
 use crate::line_words::{cut_word, words};
-use pc_rules::read_rule;
 use crate::statement::is_cost_text;
 use pc_base::{NoMemory, Sequence};
 use pc_file::{
@@ -33,6 +30,7 @@ use pc_file::{
     header_line_size, is_reserved, rule_line_size, value_line_size, variable_line_size, with_line,
 };
 use pc_names::{Name, read_int};
+use pc_rules::{Kind, RuleFault, read_rule};
 use std::alloc::Global;
 
 /// The variable whose values are being given.
@@ -170,7 +168,7 @@ impl Reader {
     fn take_header(&mut self, arguments: &[&[u8]]) -> Result<(), RuleFault>
         requires { IsIndexed self.old }
         ensures { Answers result (or_else (first_standing ((not ((length (bytes arguments.now) == 1) && same_spelling (argument (bytes arguments.now) 0) (codes "1")), Header) ∷ []))
-                (print_fault (give (given_of self.old) (Some Keyword.Product) (bytes arguments.now)).printed))
+            (print_fault (give (given_of self.old) (Some Keyword.Product) (bytes arguments.now)).printed))
             (Holds self.new (give (given_of self.old) (Some Keyword.Product) (bytes arguments.now))) }
     {
         if arguments.len() != 1 || argument(arguments, 0) != b"1".as_slice() {
@@ -185,7 +183,7 @@ impl Reader {
         requires { IsIndexed self.old }
         ensures { let given = given_of self.old in let rule = rule_of (catalogue_of (variables_given given)) text.now in
             Answers result (or_else (first_standing (orders_within given (Some word) (words text.now)))
-                (or_else (fault_of_rule (Some word) rule) (print_fault (give_statement given (Some word) (words text.now) rule).printed)))
+            (or_else (fault_of_rule (Some word) rule) (print_fault (give_statement given (Some word) (words text.now) rule).printed)))
             (Holds self.new (give_statement given (Some word) (words text.now) rule)) }
     {
         match word {
@@ -222,7 +220,7 @@ impl Reader {
     fn take_cost(&mut self, arguments: &[&[u8]]) -> Result<(), RuleFault>
         requires { IsIndexed self.old }
         ensures { Answers result (or_else (first_standing (orders_within (given_of self.old) (Some Keyword.Cost) (bytes arguments.now)))
-                (print_fault (give (given_of self.old) (Some Keyword.Cost) (bytes arguments.now)).printed))
+            (print_fault (give (given_of self.old) (Some Keyword.Cost) (bytes arguments.now)).printed))
             (Holds self.new (give (given_of self.old) (Some Keyword.Cost) (bytes arguments.now))) }
     {
         let name = only_name(arguments).ok_or(RuleFault::Fault(Kind::Cost))?;
@@ -241,7 +239,7 @@ impl Reader {
     fn take_variable(&mut self, alloc: Global, arguments: &[&[u8]]) -> Result<(), RuleFault>
         requires { IsIndexed self.old }
         ensures { Answers result (or_else (first_standing (orders_within (given_of self.old) (Some Keyword.Variable) (bytes arguments.now)))
-                (print_fault (give (given_of self.old) (Some Keyword.Variable) (bytes arguments.now)).printed))
+            (print_fault (give (given_of self.old) (Some Keyword.Variable) (bytes arguments.now)).printed))
             (Holds self.new (give (given_of self.old) (Some Keyword.Variable) (bytes arguments.now))) }
     {
         let name = only_free_name(arguments).ok_or(RuleFault::Fault(Kind::Variable))?;
@@ -265,7 +263,7 @@ impl Reader {
     fn take_value(&mut self, arguments: &[&[u8]]) -> Result<(), RuleFault>
         requires { IsIndexed self.old }
         ensures { Answers result (or_else (first_standing (orders_within (given_of self.old) (Some Keyword.Value) (bytes arguments.now)))
-                (print_fault (give (given_of self.old) (Some Keyword.Value) (bytes arguments.now)).printed))
+            (print_fault (give (given_of self.old) (Some Keyword.Value) (bytes arguments.now)).printed))
             (Holds self.new (give (given_of self.old) (Some Keyword.Value) (bytes arguments.now))) }
     {
         let value = value_of(arguments, self.costs.len())?;
@@ -281,7 +279,7 @@ impl Reader {
     fn take_end(&mut self, arguments: &[&[u8]]) -> Result<(), RuleFault>
         requires { IsIndexed self.old }
         ensures { Answers result (or_else (first_standing (orders_within (given_of self.old) (Some Keyword.End) (bytes arguments.now)))
-                (print_fault (give (given_of self.old) (Some Keyword.End) (bytes arguments.now)).printed))
+            (print_fault (give (given_of self.old) (Some Keyword.End) (bytes arguments.now)).printed))
             (Holds self.new (give (given_of self.old) (Some Keyword.End) (bytes arguments.now))) }
     {
         if !arguments.is_empty() {
@@ -297,7 +295,7 @@ impl Reader {
         requires { IsIndexed self.old }
         ensures { let rule = rule_of (catalogue_of (variables_given (given_of self.old))) text.now in
             Answers result (or_else (first_standing (orders_within (given_of self.old) (Some Keyword.Rule) []))
-                (or_else (rule_fault rule) (print_fault (give_rule (given_of self.old) rule).printed)))
+            (or_else (rule_fault rule) (print_fault (give_rule (given_of self.old) rule).printed)))
             (Holds self.new (give_rule (given_of self.old) rule)) }
     {
         if self.rules.len() >= 1024 {

@@ -6,12 +6,11 @@ ghost use Rattle.pc_text.specs.FirstFault.{end_fault, first_fault, give_line, gi
 ghost use Rattle.pc_text.specs.Reader.{Holds, IsIndexed, given_of};
 ghost use Rattle.pc_text.specs.Told.{AnswersAt, ReadsText};
 
-use pc_rules::RuleFault;
 use crate::keyword::Keyword;
-use pc_rules::Kind;
 use crate::lines::cut_line;
 use crate::reader::Reader;
 use crate::text_fault::TextFault;
+use pc_rules::{Kind, RuleFault};
 use std::alloc::Global;
 
 /// The most bytes of a line, lines of a text and bytes of a text.

@@ -1,7 +1,7 @@
 //! Why a text is no product file.
 
-use pc_rules::Kind;
 use pc_base::NoMemory;
+use pc_rules::Kind;
 use thiserror::Error;
 
 /// Why no file is read.

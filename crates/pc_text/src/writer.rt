@@ -7,7 +7,7 @@ ghost use Rattle.pc_file.specs.Limits.{IsFile};
 ghost use Rattle.pc_file.specs.PrintedForm.{cost_line, printed, rule_line, value_line, variable_line, with_feed};
 ghost use Rattle.pc_names.specs.Name.{is_name};
 ghost use Rattle.pc_rules.specs.Nameable.{is_named};
-ghost use Rattle.pc_text.specs.Printable.{has_names};
+ghost use Rattle.pc_text.specs.Named.{has_names};
 ghost use Rattle.pc_text.specs.Spells.{Spells};
 
 use pc_base::{NoMemory, Text};

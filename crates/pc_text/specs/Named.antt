@@ -1,4 +1,4 @@
--- Files whose printed form is a text that can be read.
+-- Files whose names are names.
 use Rattle.std.specs.Prelude.{Bool, ◌&&◌}
 use Rattle.std.specs.List.{list_all}
 use Rattle.pc_names.specs.Name.{is_name}
