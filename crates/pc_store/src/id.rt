@@ -5,8 +5,8 @@ ghost use Rattle.std.specs.Prelude.{◌≡◌, ◌≤◌, length, map, take};
 use crate::layer::MOST_VALUES;
 
 /// A set of words that a store keeps, from a layer on: each word has a value of every variable from that layer to the
-/// last. It says nothing without its store.
-#[derive(Clone, Copy, Debug, PartialEq, Eq, Hash)]
+/// last. It says nothing without its store, but for the default, which is the set without words of the first layer.
+#[derive(Clone, Copy, Debug, Default, PartialEq, Eq, Hash)]
 pub struct Id {
     pub(crate) layer: u32,
     pub(crate) node: u32,

@@ -52,6 +52,11 @@ impl Store {
         })
     }
 
+    /// The allocator that the store takes its memory from.
+    pub fn allocator(&self) -> Global {
+        *self.layers.allocator()
+    }
+
     /// How many variables there are. The layer past the last is the greatest.
     pub fn variables(&self) -> u32
         ensures count { result ≡ length (domains_of self.now) }
@@ -140,9 +145,8 @@ impl Store {
         requires { IsId self.now id }
         ensures { IfOk result (λ n. n ≡ size (drop (layer_of id) (domains_of self.now)) (has self.now id)) }
     {
-        let alloc = *self.layers.allocator();
         let (_, layers) = self.layers.as_slice().split_at(id.layer as usize);
-        size_of(alloc, layers, id.node)
+        size_of(self.allocator(), layers, id.node)
     }
 
     /// Whether two ids of one layer have the same words.
