@@ -11,3 +11,6 @@ mod product;
 mod tally;
 
 pub use operations::{and, at_most, not, or};
+
+#[cfg(test)]
+mod tests;
