@@ -1,6 +1,6 @@
 -- Carrying plans out.
 use Rattle.std.proofs.Common.{◌≡◌, ℕ, zero, suc, ◌+◌, ◌<◌, ◌≤◌, Bool, List, [], ◌∷◌, ◌++◌, take, drop, set, length, get_or, slice_get, slice_index, Some, None, All, refl, sym, ap, ◌∙◌, subst, arith, inl, inr, ◌⊎◌}
-use Rattle.std.proofs.lemmas.List.{take_more, take_more_set, length_push}
+use Rattle.std.proofs.lemmas.List.{take_more, take_all, length_push}
 use Rattle.std.proofs.lemmas.Option.{get_or_from_slice_get, slice_get-get_or}
 use Rattle.pc_store.specs.declared.id.Id.{Id}
 use Rattle.pc_store.specs.declared.store.Store.{Store}
@@ -19,12 +19,10 @@ pub picks_none : (below : List Id) → Picks below [] []
 picks_none below = record { count = refl; each = λ value place id at. absurd cc }
 
 -- one place more
-pub picks_more : (below : List Id) (places : List ℕ) (ids : List Id) (i : ℕ) (d : Id) → i < length places → i < length ids → Picks below (take i places) (take i ids) → Picks below (take (i + 1) places) (take (i + 1) (set ids i (get_or below (get_or places i 0) d)))
-picks_more below places ids i d lt room h = record {
-  count = ap length more_ids ∙ length_push (take i ids) id ∙ ap (λ n. n + 1) h.count ∙ sym (ap length more_places ∙ length_push (take i places) place);
-  each = λ value p x at there.
-      let goal : slice_get (take i ids ++ id ∷ []) value ≡ Some x = by value p x (subst (λ l. slice_get l value ≡ Some p) more_places at) there in
-      subst (λ l. slice_get l value ≡ Some x) (sym more_ids) goal;
+pub picks_more : (below : List Id) (places : List ℕ) (ids : List Id) (i : ℕ) (d : Id) → i < length places → Picks below (take i places) ids → Picks below (take (i + 1) places) (ids ++ get_or below (get_or places i 0) d ∷ [])
+picks_more below places ids i d lt h = record {
+  count = length_push ids id ∙ ap (λ n. n + 1) h.count ∙ sym (ap length more_places ∙ length_push (take i places) place);
+  each = λ value p x at there. by value p x (subst (λ l. slice_get l value ≡ Some p) more_places at) there;
 }
   where
     place : ℕ
@@ -36,17 +34,17 @@ picks_more below places ids i d lt room h = record {
     more_places : take (i + 1) places ≡ take i places ++ place ∷ []
     more_places = take_more places i 0 lt
 
-    more_ids : take (i + 1) (set ids i id) ≡ take i ids ++ id ∷ []
-    more_ids = take_more_set ids i id room
-
-    by : (value p : ℕ) (x : Id) → slice_get (take i places ++ place ∷ []) value ≡ Some p → slice_get below p ≡ Some x → slice_get (take i ids ++ id ∷ []) value ≡ Some x
+    by : (value p : ℕ) (x : Id) → slice_get (take i places ++ place ∷ []) value ≡ Some p → slice_get below p ≡ Some x → slice_get (ids ++ id ∷ []) value ≡ Some x
     by value p x at there = elim (last_or_before (take i places) place p value at) [
-      | inl before ↦ still (take i ids) (id ∷ []) value x (h.each value p x before there)
+      | inl before ↦ still ids (id ∷ []) value x (h.each value p x before there)
       | inr last ↦
           let same : id ≡ x = ap (λ q. get_or below q d) (sym last.1) ∙ get_or_from_slice_get below p x d there in
-          let here : value ≡ length (take i ids) = last.0 ∙ sym h.count in
-          subst (λ v. slice_get (take i ids ++ id ∷ []) v ≡ Some x) (sym here) (stands_last (take i ids) id ∙ ap Some same)
+          let here : value ≡ length ids = last.0 ∙ sym h.count in
+          subst (λ v. slice_get (ids ++ id ∷ []) v ≡ Some x) (sym here) (stands_last ids id ∙ ap Some same)
     ]
+
+pub picks_all : (below : List Id) (places : List ℕ) (ids : List Id) (i : ℕ) → length places ≤ i → Picks below (take i places) ids → Picks below places ids
+picks_all below places ids i ge h = subst (λ l. Picks below l ids) (take_all i places ge) h
 
 -- what holds of all ids holds of those picked
 pub picks_hold : (P : Id → Type 0) (below : List Id) (places : List ℕ) (children : List Id) → Picks below places children → All (λ place. place < length below) places → All P below → All P children

@@ -1,6 +1,6 @@
 //! Nodes over those of the next layer.
 
-ghost use Rattle.std.specs.Prelude.{◌≡◌, ◌<◌, ◌≤◌, ◌+◌, ℕ, length, take, slice_index, slice_get, Some, All, IfOk};
+ghost use Rattle.std.specs.Prelude.{◌≡◌, ◌<◌, ◌+◌, ℕ, length, slice_index, slice_get, Some, All, IfOk, OnOk};
 ghost use Rattle.pc_store.specs.Sets.{domains_of, IsIdAt, Keeps};
 ghost use Rattle.pc_apply.specs.declared.plan.Plan.{Plan};
 ghost use Rattle.pc_apply.specs.Levels.{InRange, Picks, IsOver, CarriedOut, EachCarriedOut};
@@ -9,9 +9,6 @@ use crate::plan::Plan;
 use pc_base::NoMemory;
 use pc_store::{Id, Store};
 use std::alloc::Global;
-
-/// The most values that a variable has.
-const MOST_VALUES: usize = 64;
 
 /// The set of each plan of a layer, from the sets below.
 pub(crate) fn carry_out_all(
@@ -31,19 +28,21 @@ pub(crate) fn carry_out_all(
     ensures keeps { Keeps store.old store.new }
 {
     let mut ids = Vec::with_capacity(alloc, plans.len())?;
+    let mut children = Vec::new(alloc);
     for plan in plans {
-        ids.push(carry_out(store, layer, *plan, targets, below)?)?;
+        ids.push(carry_out(store, layer, *plan, targets, below, &mut children)?)?;
     }
     Ok(ids)
 }
 
-/// The set of one plan.
+/// The set of one plan. The children are room to work in.
 fn carry_out(
     store: &mut Store,
     layer: u32,
     plan: Plan,
     targets: &[u32],
     below: &[Id],
+    children: &mut Vec<Id>,
 ) -> Result<Id, NoMemory>
     requires inner { layer < length (domains_of store.old) }
     requires few { layer < 64 }
@@ -58,35 +57,39 @@ fn carry_out(
             let count = store.domain(layer) as usize;
             let (_, from_first) = targets.split_at(first as usize);
             let (places, _) = from_first.split_at(count);
-            node_over(store, layer, places, below)
+            node_over(store, layer, places, below, children)
         }
     }
 }
 
 /// The node over the sets at these places, one for each value.
-fn node_over(store: &mut Store, layer: u32, places: &[u32], below: &[Id]) -> Result<Id, NoMemory>
+fn node_over(
+    store: &mut Store,
+    layer: u32,
+    places: &[u32],
+    below: &[Id],
+    children: &mut Vec<Id>,
+) -> Result<Id, NoMemory>
     requires inner { layer < length (domains_of store.old) }
     requires few { layer < 64 }
     requires below { All (IsIdAt store.old (layer + 1)) below.now }
     requires width { length places.now ≡ slice_index (domains_of store.old) layer }
-    requires few_places { length places.now ≤ 64 }
     requires in_range { All (λ place. place < length below.now) places.now }
     ensures id { IfOk result (IsOver store.old store.new layer below.now places.now) }
     ensures keeps { Keeps store.old store.new }
 {
-    let children = picked(below, places, store.empty(layer + 1));
-    store.node(layer, &children[..places.len()])
+    pick(children, below, places)?;
+    store.node(layer, children.as_slice())
 }
 
-/// The ids at these places, and others after them.
-fn picked(below: &[Id], places: &[u32], other: Id) -> [Id; MOST_VALUES]
-    requires few { length places.now ≤ 64 }
-    requires in_range { All (λ place. place < length below.now) places.now }
-    ensures { Picks below.now places.now (take (length places.now) result) }
+/// Picks the ids at these places.
+fn pick(ids: &mut Vec<Id>, below: &[Id], places: &[u32]) -> Result<(), NoMemory>
+    requires { All (λ place. place < length below.now) places.now }
+    ensures { OnOk result (Picks below.now places.now ids.new.items) }
 {
-    let mut ids = [other; MOST_VALUES];
-    for (value, place) in places.iter().enumerate() {
-        ids[value] = below[*place as usize];
+    ids.clear();
+    for place in places {
+        ids.push(below[*place as usize])?;
     }
-    ids
+    Ok(())
 }

@@ -233,15 +233,6 @@ same_when store h a b is_a is_b false e = (
     nat_eq-same : (n : ℕ) → nat_eq n n ≡ true
     nat_eq-same n = grind (arith, nat_tests)
 
--- children are few
-pub few_children : (store : List Layer) (place : ℕ) (children : List Id) → IsLayered store → place < length (domains_of store) → length children ≡ get_or (domains_of store) place 0 → length children ≤ 64
-few_children store place children h lt width =
-    let none : Layer = record { domain = 0; table = [] } in
-    let is = is_domain_at store place none h lt in
-    let same = domain_at store place none lt in
-    let few = is.few_values in
-    omega arith
-
 -- what a store that got a node is
 pub record NodeMade (old new : List Layer) (place node : ℕ) (children : List Id) : Type 0 where
   pub store : IsStore new

@@ -1,8 +1,8 @@
 //! Names of sets of words.
 
-ghost use Rattle.std.specs.Prelude.{◌≡◌, ◌≤◌, length, map, take};
+ghost use Rattle.std.specs.Prelude.{◌≡◌, map, OnOk};
 
-use crate::layer::MOST_VALUES;
+use pc_base::NoMemory;
 
 /// A set of words that a store keeps, from a layer on: each word has a value of every variable from that layer to the
 /// last. It says nothing without its store, but for the default, which is the set without words of the first layer.
@@ -25,14 +25,13 @@ impl Id {
     }
 }
 
-/// The nodes of the sets, and nothing of note after them.
-pub(crate) fn nodes_of(children: &[Id]) -> [u32; MOST_VALUES]
-    requires { length children.now ≤ 64 }
-    ensures { take (length children.now) result ≡ map (λ child. child.node) children.now }
+/// Makes a row of the nodes of sets.
+pub(crate) fn write_nodes(row: &mut Vec<u32>, children: &[Id]) -> Result<(), NoMemory>
+    ensures { OnOk result (row.new.items ≡ map (λ child. child.node) children.now) }
 {
-    let mut nodes = [0; MOST_VALUES];
-    for (value, child) in children.iter().enumerate() {
-        nodes[value] = child.node;
+    row.clear();
+    for child in children {
+        row.push(child.node)?;
     }
-    nodes
+    Ok(())
 }

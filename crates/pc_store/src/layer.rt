@@ -8,7 +8,7 @@ use pc_base::NoMemory;
 use std::alloc::Global;
 
 /// The most values that a variable has.
-pub(crate) const MOST_VALUES: usize = 64;
+const MOST_VALUES: usize = 64;
 
 /// The nodes of one variable, which takes so many values.
 #[derive(Debug, Drop)]

@@ -4,7 +4,7 @@ ghost use Rattle.std.specs.Prelude.{◌≡◌, ◌<◌, ◌≤◌, ◌+◌, ◌�
 ghost use Rattle.pc_diagram.specs.Rests.{size};
 ghost use Rattle.pc_diagram.specs.Words.{is_word};
 
-use crate::id::{Id, nodes_of};
+use crate::id::{Id, write_nodes};
 use crate::layer::{Layer, intern_at, new_layers};
 use crate::size::{EMPTY, size_of};
 use pc_base::NoMemory;
@@ -20,6 +20,9 @@ const FULL: u32 = 1;
 #[derive(Debug, Drop)]
 pub struct Store {
     layers: Vec<Layer>,
+
+    // The row that is looked up, so that a look-up takes no memory.
+    row: Vec<u32>,
 }
 
 impl Model for Store {
@@ -49,6 +52,7 @@ impl Store {
     {
         Ok(Store {
             layers: new_layers(alloc, domains)?,
+            row: Vec::new(alloc),
         })
     }
 
@@ -118,9 +122,8 @@ impl Store {
         ensures keeps { Keeps self.old self.new }
         ensures err { OnErr result (self.new ≡ self.old) }
     {
-        let _layers = &self.layers;
-        let row = nodes_of(children);
-        let node = intern_at(&mut self.layers, layer as usize, &row[..children.len()])?;
+        write_nodes(&mut self.row, children)?;
+        let node = intern_at(&mut self.layers, layer as usize, self.row.as_slice())?;
         Ok(Id { layer, node })
     }
 
