@@ -3,9 +3,9 @@
 //! many pairs of variables, and tells times and the most memory that it had.
 #![tactic(auto)]
 
-mod build;
-
 ghost use Rattle.std.specs.Prelude.{◌<◌, ◌≤◌, IfOk, IfSome};
+
+mod build;
 
 use anyhow::Result;
 use build::{few_first, same_pairs};
