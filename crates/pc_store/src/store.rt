@@ -107,9 +107,8 @@ impl Store {
         self.full(self.variables())
     }
 
-    /// The set of the words that begin with a value and go on in the set of the child for it. It takes no memory where
-    /// the set is kept already, but for what is free. Want of memory leaves the store as it was; it is also the answer
-    /// where a layer has 2^32 nodes.
+    /// The set of the words that begin with a value and go on in the set of the child for it. Want of memory leaves the
+    /// store as it was; it is also the answer where a layer has 2^32 nodes.
     pub fn node(&mut self, layer: u32, children: &[Id]) -> Result<Id, NoMemory>
         requires inner { layer < length (domains_of self.old) }
         requires width { length children.now ≡ slice_index (domains_of self.old) layer }
