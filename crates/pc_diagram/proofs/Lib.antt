@@ -4,3 +4,4 @@ pub mod CostLemmas
 pub mod FirstBest
 pub mod ListingLemmas
 pub mod PricedLemmas
+pub mod WordLemmas

@@ -6,3 +6,5 @@ pub mod Costs
 pub mod Fitting
 pub mod Listing
 pub mod Priced
+pub mod Rests
+pub mod Words

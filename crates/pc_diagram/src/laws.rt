@@ -1,6 +1,6 @@
 //! Laws of the definitions. Each function's contract is a law; nothing calls them.
 
-ghost use Rattle.std.specs.Prelude.{◌≡◌, ◌<◌, ◌↔◌, ℕ, pos, List, [], ◌∷◌, length, map, filter, All, Some, None, is_some, false};
+ghost use Rattle.std.specs.Prelude.{◌≡◌, ◌<◌, ◌↔◌, ℕ, pos, List, [], ◌∷◌, length, map, filter, All, Some, None, is_some, false, not, ◌&&◌, ◌||◌};
 ghost use Rattle.std.specs.List.{range_with_len};
 ghost use Rattle.pc_diagram.specs.declared.bounds.Bounds.{Bounds};
 ghost use Rattle.pc_diagram.specs.declared.choice.Choice.{Choice};
@@ -11,8 +11,9 @@ ghost use Rattle.pc_diagram.specs.Bounds.{no_bounds};
 ghost use Rattle.pc_diagram.specs.Choices.{is_chosen, value_of};
 ghost use Rattle.pc_diagram.specs.Costs.{cost, IsPriced, IsSum};
 ghost use Rattle.pc_diagram.specs.Best.{best, is_cheaper_word, IsFirstUnbeaten};
-ghost use Rattle.pc_diagram.specs.Fitting.{fitting};
+ghost use Rattle.pc_diagram.specs.Fitting.{takes, fitting};
 ghost use Rattle.pc_diagram.specs.Listing.{listing, listing_of, value_count, is_valid, IsCheapestTaking};
+ghost use Rattle.pc_diagram.specs.Rests.{size};
 ghost use Rattle.pc_diagram.specs.Bike.{bike_costs, bikes, three, alloy, two_days, open_listing, two_days_listing, alloy_listing};
 
 /// The worked example, by evaluation: what is listed of the bikes with no bound, of at most two days, and with the
@@ -25,6 +26,17 @@ pub fn bikes_are_listed()
     ensures openly { listing bike_costs bikes [] no_bounds ≡ open_listing }
     ensures bounded { listing bike_costs bikes [] two_days ≡ two_days_listing }
     ensures chosen { listing bike_costs bikes (alloy ∷ []) no_bounds ≡ alloy_listing }
+{}
+
+/// The size of sets of words over two variables of two values, by evaluation: those whose first value is 0, those whose
+/// second is, those in both, in either, not in the first, and none.
+pub fn sizes_over_two_variables()
+    ensures first { size (2 ∷ 2 ∷ []) (λ word. takes word 0 0) ≡ 3 }
+    ensures second { size (2 ∷ 2 ∷ []) (λ word. takes word 1 0) ≡ 3 }
+    ensures both { size (2 ∷ 2 ∷ []) (λ word. takes word 0 0 && takes word 1 0) ≡ 3 }
+    ensures either { size (2 ∷ 2 ∷ []) (λ word. takes word 0 0 || takes word 1 0) ≡ 4 }
+    ensures other { size (2 ∷ 2 ∷ []) (λ word. not (takes word 0 0)) ≡ 3 }
+    ensures none { size (2 ∷ 2 ∷ []) (λ word. false) ≡ 0 }
 {}
 
 /// The cost of a word fits 64 bits with much to spare.

@@ -26,7 +26,7 @@ pub use costing::{cost, cost_pair, is_priced};
 pub use costs::{CostPair, Costs};
 pub use laws::{
     best_is_the_first_unbeaten, bikes_are_listed, chosen_has_a_value, listing_has_the_valid_values,
-    sums_are_small,
+    sizes_over_two_variables, sums_are_small,
 };
 pub use listed::{Listed, Listing};
 pub use matching::{extends, fitting, within};

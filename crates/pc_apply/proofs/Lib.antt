@@ -1,0 +1,4 @@
+pub mod BuildLemmas
+pub mod LevelLemmas
+pub mod ProductLemmas
+pub mod TallyLemmas

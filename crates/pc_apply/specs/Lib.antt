@@ -1,0 +1,3 @@
+pub mod Counting
+pub mod Levels
+pub mod Tallies

@@ -1,0 +1,112 @@
+//! One layer of a product.
+
+ghost use Rattle.std.specs.Prelude.{◌≡◌, ◌<◌, ◌+◌, length, slice_index, IfOk, OnOk};
+ghost use Rattle.pc_store.specs.Sets.{domains_of};
+ghost use Rattle.pc_apply.specs.Levels.{HaveSets, LeadsFrom, Fits, EachFits, Planned, StandsFor, with_tally};
+ghost use Rattle.pc_apply.specs.Tallies.{HasSets};
+
+use crate::plan::Plan;
+use crate::tally::Tally;
+use indexmap::IndexSet;
+use pc_base::NoMemory;
+use pc_store::Store;
+use std::alloc::Global;
+
+/// How the sets of the tallies of one layer are got from those of the different tallies of the next.
+#[derive(Debug, Drop)]
+pub(crate) struct Level {
+    pub plans: Vec<Plan>,
+    pub targets: Vec<u32>,
+    pub below: IndexSet<Tally>,
+}
+
+/// A plan for each tally of a layer before the last.
+pub(crate) fn plan_level(
+    alloc: Global,
+    store: &Store,
+    layer: u32,
+    within: bool,
+    tallies: &[Tally],
+) -> Result<Level, NoMemory>
+    requires inner { layer < length (domains_of store.now) }
+    requires few { layer < 64 }
+    requires sets { HaveSets store.now layer tallies.now }
+    ensures { IfOk result (λ level. EachFits store.now layer within tallies.now level.below.keys level.targets.items level.plans.items) }
+{
+    let mut plans = Vec::with_capacity(alloc, tallies.len())?;
+    let mut targets = Vec::new(alloc);
+    let mut below = IndexSet::new(alloc);
+    for tally in tallies {
+        plans.push(plan_for(alloc, store, layer, within, tally, &mut targets, &mut below)?)?;
+    }
+    Ok(Level {
+        plans,
+        targets,
+        below,
+    })
+}
+
+/// A plan for one tally. What is left to count after each value is put below, if it isn't there.
+fn plan_for(
+    alloc: Global,
+    store: &Store,
+    layer: u32,
+    within: bool,
+    tally: &Tally,
+    targets: &mut Vec<u32>,
+    below: &mut IndexSet<Tally>,
+) -> Result<Plan, NoMemory>
+    requires inner { layer < length (domains_of store.now) }
+    requires few { layer < 64 }
+    requires sets { HasSets store.now layer tally.now }
+    requires below { HaveSets store.now (layer + 1) below.old.keys }
+    ensures plan { IfOk result (Fits store.now layer within tally.now below.new.keys targets.new.items) }
+    ensures more { OnOk result (Planned store.now layer below.old.keys below.new.keys targets.old.items targets.new.items) }
+{
+    match tally.settled(store, layer, within) {
+        Some(id) => Ok(Plan::Known(id)),
+        None => {
+            let first = number(targets.len())?;
+            expand(alloc, store, layer, tally, targets, below)?;
+            Ok(Plan::Node(first))
+        }
+    }
+}
+
+/// A target for each value: the place below of what is left to count.
+fn expand(
+    alloc: Global,
+    store: &Store,
+    layer: u32,
+    tally: &Tally,
+    targets: &mut Vec<u32>,
+    below: &mut IndexSet<Tally>,
+) -> Result<(), NoMemory>
+    requires inner { layer < length (domains_of store.now) }
+    requires few { layer < 64 }
+    requires sets { HasSets store.now layer tally.now }
+    requires below { HaveSets store.now (layer + 1) below.old.keys }
+    ensures leads { OnOk result (LeadsFrom store.now layer tally.now below.new.keys targets.new.items (length targets.old.items) (slice_index (domains_of store.now) layer)) }
+    ensures more { OnOk result (Planned store.now layer below.old.keys below.new.keys targets.old.items targets.new.items) }
+{
+    for value in 0..store.domain(layer) {
+        let next = tally.after(alloc, store, layer, value)?;
+        targets.push(place(below, next)?)?;
+    }
+    Ok(())
+}
+
+/// The place of a tally, which goes to the end if it isn't there.
+fn place(below: &mut IndexSet<Tally>, tally: Tally) -> Result<u32, NoMemory>
+    ensures stands { IfOk result (λ n. StandsFor below.new.keys n tally) }
+    ensures keys { OnOk result (below.new.keys ≡ with_tally below.old.keys tally) }
+{
+    let (place, _) = below.insert_full(tally)?;
+    number(place)
+}
+
+fn number(place: usize) -> Result<u32, NoMemory>
+    ensures { IfOk result (λ n. n ≡ place) }
+{
+    u32::try_from(place).map_err(|_| NoMemory)
+}

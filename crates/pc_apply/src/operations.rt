@@ -1,0 +1,76 @@
+//! The operations on sets of whole words.
+
+ghost use Rattle.std.specs.Prelude.{◌≡◌, ℕ, List, ◌&&◌, ◌||◌, not as negated, All, IfOk};
+ghost use Rattle.pc_diagram.specs.Words.{is_word};
+ghost use Rattle.pc_store.specs.Sets.{domains_of, IsIdAt, has, Keeps};
+ghost use Rattle.pc_apply.specs.Counting.{is_within};
+ghost use Rattle.pc_apply.specs.Tallies.{asked};
+
+use crate::product::sets_of;
+use crate::tally::Tally;
+use pc_base::NoMemory;
+use pc_store::{Id, Store};
+use smallvec::SmallVec;
+
+/// The words in both sets of the first layer. Want of memory leaves the store as it was but for more nodes.
+pub fn and(store: &mut Store, a: Id, b: Id) -> Result<Id, NoMemory>
+    requires first { IsIdAt store.old 0 a }
+    requires second { IsIdAt store.old 0 b }
+    ensures is_id { IfOk result (IsIdAt store.new 0) }
+    ensures set { IfOk result (λ id. (word : List ℕ) → has store.new id word ≡ (has store.old a word && has store.old b word)) }
+    ensures keeps { Keeps store.old store.new }
+{
+    store.words_are_over_domains();
+    count(store, 1, &[a, b], false)
+}
+
+/// The words in either set of the first layer, or in both. Want of memory leaves the store as it was but for more
+/// nodes.
+pub fn or(store: &mut Store, a: Id, b: Id) -> Result<Id, NoMemory>
+    requires first { IsIdAt store.old 0 a }
+    requires second { IsIdAt store.old 0 b }
+    ensures is_id { IfOk result (IsIdAt store.new 0) }
+    ensures set { IfOk result (λ id. (word : List ℕ) → has store.new id word ≡ (has store.old a word || has store.old b word)) }
+    ensures keeps { Keeps store.old store.new }
+{
+    store.words_are_over_domains();
+    count(store, 0, &[a, b], false)
+}
+
+/// The words over the domains that aren't in the set, which is of the first layer. Want of memory leaves the store as
+/// it was but for more nodes.
+pub fn not(store: &mut Store, a: Id) -> Result<Id, NoMemory>
+    requires { IsIdAt store.old 0 a }
+    ensures is_id { IfOk result (IsIdAt store.new 0) }
+    ensures set { IfOk result (λ id. (word : List ℕ) → has store.new id word ≡ (is_word (domains_of store.old) word && negated (has store.old a word))) }
+    ensures keeps { Keeps store.old store.new }
+{
+    count(store, 0, &[a], true)
+}
+
+/// The words over the domains that are in at most so many of the members, which are of the first layer. A set that
+/// stands twice among them counts twice. Want of memory leaves the store as it was but for more nodes.
+pub fn at_most(store: &mut Store, most: u32, members: &[Id]) -> Result<Id, NoMemory>
+    requires { All (IsIdAt store.old 0) members.now }
+    ensures is_id { IfOk result (IsIdAt store.new 0) }
+    ensures set { IfOk result (λ id. (word : List ℕ) → has store.new id word ≡ (is_word (domains_of store.old) word && is_within store.old most members.now word)) }
+    ensures keeps { Keeps store.old store.new }
+{
+    count(store, most, members, true)
+}
+
+/// The words over the domains that are in at most so many of the sets, or those that are in more.
+fn count(store: &mut Store, most: u32, sets: &[Id], within: bool) -> Result<Id, NoMemory>
+    requires { All (IsIdAt store.old 0) sets.now }
+    ensures is_id { IfOk result (IsIdAt store.new 0) }
+    ensures set { IfOk result (λ id. (word : List ℕ) → has store.new id word ≡ (is_word (domains_of store.old) word && asked within (is_within store.old most sets.now word))) }
+    ensures keeps { Keeps store.old store.new }
+{
+    let alloc = store.allocator();
+    let tally = Tally {
+        most,
+        sets: SmallVec::from_slice(alloc, sets)?,
+    };
+    let ids = sets_of(alloc, store, 0, within, &[tally])?;
+    Ok(ids[0])
+}

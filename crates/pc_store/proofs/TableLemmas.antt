@@ -1,0 +1,49 @@
+-- A row among rows, found by a test.
+use Rattle.std.proofs.Common.{◌≡◌, ℕ, suc, ◌+◌, Bool, true, false, cond, ◌||◌, nat_eq, List, [], ◌∷◌, ◌++◌, map, Option, None, Some, slice_get, position, refl, sym, ap, ◌∙◌, arith, subst, IfSome, if◌then◌else◌}
+use Rattle.std.specs.Cmp.Lexicographic.{pointwise}
+use Rattle.std.specs.List.{list_any, position_from}
+use Rattle.std.proofs.lemmas.Iterator.Adapters.{position_from-zero}
+use Rattle.std.proofs.lemmas.List.{map-append}
+use Rattle.std.proofs.lemmas.Slice.Eq.{bytes_eq-Decides}
+
+module _ {K : Type 0} (items : K → List ℕ) (row : List ℕ) where
+  abbrev test : K → Bool
+  test k = pointwise nat_eq row (items k)
+
+  pub list_any-rows : (ks : List K) → list_any test ks ≡ list_any (pointwise nat_eq row) (map items ks)
+  list_any-rows [] = refl
+  list_any-rows (k ∷ ks) = ap (λ b. test k || b) (list_any-rows ks)
+
+  abbrev Stands : ℕ → List K → Option ℕ → Type 0
+  Stands n ks None = list_any test ks ≡ false
+  Stands n ks (Some place) = (j : ℕ) × (place ≡ n + j) × (slice_get (map items ks) j ≡ Some row) × (list_any test ks ≡ true)
+
+  stands_from : (n : ℕ) (ks : List K) → Stands n ks (position_from test n ks)
+  stands_from n [] = refl
+  stands_from n (k ∷ ks) = by (test k) refl (position_from test (n + 1) ks) (stands_from (n + 1) ks)
+    where
+      later : (place : Option ℕ) → test k ≡ false → Stands (n + 1) ks place → Stands n (k ∷ ks) place
+      later None apart rest = rw (apart, rest) refl
+      later (Some place) apart rest = (suc rest.0, omega (arith, rest.1), rest.2, rw (apart, rest.3) refl)
+
+      by : (b : Bool) → test k ≡ b → (place : Option ℕ) → Stands (n + 1) ks place → Stands n (k ∷ ks) (cond b (Some n) place)
+      by true same place rest = (0, omega arith, ap Some (sym ((bytes_eq-Decides row (items k)).0 same)), ap (λ b. b || list_any test ks) same)
+      by false apart place rest = later place apart rest
+
+  found : (ks : List K) (place : Option ℕ) → place ≡ position test ks → Stands 0 ks place
+  found ks place is = let P : Option ℕ → Type 0 = Stands 0 ks in subst P (sym (is ∙ position_from-zero test ks)) (stands_from 0 ks)
+
+  -- a place that the test finds is that of the row
+  pub row_found : (ks : List K) (place : Option ℕ) → place ≡ position test ks → IfSome place (λ p. slice_get (map items ks) p ≡ Some row)
+  row_found ks place is = by place (found ks place is)
+    where
+      by : (p : Option ℕ) → Stands 0 ks p → IfSome p (λ q. slice_get (map items ks) q ≡ Some row)
+      by None s = tt
+      by (Some p) s = let same : p ≡ s.0 = omega (arith, s.1) in rw same s.2
+
+  -- one more at the end, which wasn't there
+  pub row_pushed : (ks more : List K) (k : K) → items k ≡ row → list_any (pointwise nat_eq row) (map items ks) ≡ false →
+      more ≡ (if list_any (λ x. pointwise nat_eq (items k) (items x)) ks then ks else ks ++ k ∷ []) → map items more ≡ map items ks ++ row ∷ []
+  row_pushed ks more k is apart e =
+      let same : list_any (λ x. pointwise nat_eq (items k) (items x)) ks ≡ false = ap (λ r. list_any (λ x. pointwise nat_eq r (items x)) ks) is ∙ list_any-rows ks ∙ apart in
+      ap (map items) (e ∙ ap (λ b. if b then ks else ks ++ k ∷ []) same) ∙ map-append items ks (k ∷ []) ∙ ap (λ r. map items ks ++ r ∷ []) is

@@ -1,0 +1,4 @@
+pub mod Each
+pub mod Layered
+pub mod Rows
+pub mod Sets

@@ -1,0 +1,45 @@
+-- The sets of words that a store keeps.
+use Rattle.std.specs.Prelude.{◌≡◌, ℕ, ◌<◌, ◌≤◌, List, [], ◌∷◌, Bool, false, Option, None, Some, length, map, drop, slice_get}
+use Rattle.pc_store.specs.declared.id.Id.{Id}
+use Rattle.pc_store.specs.declared.layer.Layer.{Layer}
+use Rattle.pc_store.specs.Layered.{node_count, accepts}
+
+-- the numbers of values of the variables, in order
+unfoldable pub domains_of : List Layer → List ℕ
+domains_of store = map (λ layer. layer.domain) store
+
+-- the layer of an id: its words have values of the variables from there on
+unfoldable pub layer_of : Id → ℕ
+layer_of id = id.layer
+
+-- an id of a store
+unfoldable pub IsId : List Layer → Id → Type 0
+IsId store id = (id.layer ≤ length store) × (id.node < node_count (drop id.layer store))
+
+-- an id of one layer of a store
+abbrev pub IsIdAt : List Layer → ℕ → Id → Type 0
+IsIdAt store layer id = IsId store id × (layer_of id ≡ layer)
+
+-- the set of an id has a word
+unfoldable pub has : List Layer → Id → List ℕ → Bool
+has store id word = accepts (drop id.layer store) id.node word
+
+-- two ids have the same words
+abbrev pub SameWords : List Layer → Id → Id → Type 0
+SameWords store a b = (word : List ℕ) → has store a word ≡ has store b word
+
+-- from one state of a store to another, each id stays one and keeps its set
+pub record Keeps (old new : List Layer) : Type 0 where
+  pub domains : domains_of new ≡ domains_of old
+  pub ids : (id : Id) → IsId old id → IsId new id
+  pub sets : (id : Id) → IsId old id → (word : List ℕ) → has new id word ≡ has old id word
+
+-- there is a set, and it has a word
+abbrev pub has_in : List Layer → Option Id → List ℕ → Bool
+has_in store None word = false
+has_in store (Some id) word = has store id word
+
+-- a word begins with a value and goes on in the set of the child for that value
+abbrev pub leads : List Layer → List Id → List ℕ → Bool
+leads store children [] = false
+leads store children (value ∷ word) = has_in store (slice_get children value) word

@@ -1,0 +1,37 @@
+//! Names of sets of words.
+
+ghost use Rattle.std.specs.Prelude.{◌≡◌, map, OnOk};
+
+use pc_base::NoMemory;
+
+/// A set of words that a store keeps, from a layer on: each word has a value of every variable from that layer to the
+/// last. It says nothing without its store, but for the default, which is the set without words of the first layer.
+#[derive(Clone, Copy, Debug, Default, PartialEq, Eq, Hash)]
+pub struct Id {
+    pub(crate) layer: u32,
+    pub(crate) node: u32,
+}
+
+impl Id {
+    ghost use Rattle.std.specs.Prelude.{◌≡◌};
+    ghost use Rattle.pc_store.specs.Sets.{layer_of};
+
+    /// The layer, counted from 0. Past the last variable stands one more layer.
+    #[tactic(auto, unfolding(crate::specs::Sets::layer_of))]
+    pub fn layer(self) -> u32
+        ensures { result ≡ layer_of self }
+    {
+        self.layer
+    }
+}
+
+/// Makes a row of the nodes of sets.
+pub(crate) fn write_nodes(row: &mut Vec<u32>, children: &[Id]) -> Result<(), NoMemory>
+    ensures { OnOk result (row.new.items ≡ map (λ child. child.node) children.now) }
+{
+    row.clear();
+    for child in children {
+        row.push(child.node)?;
+    }
+    Ok(())
+}

@@ -1,0 +1,16 @@
+//! A store of the nodes of layered decision diagrams, each kept once. An id names a set of words; ids of one layer are
+//! equal exactly where their sets are, and an id keeps its set while the store grows. The size of a set is the number
+//! of nodes of its smallest diagram.
+#![tactic(auto)]
+
+mod id;
+mod layer;
+mod size;
+mod store;
+mod table;
+
+pub use id::Id;
+pub use store::Store;
+
+#[cfg(test)]
+mod tests;

@@ -1,0 +1,63 @@
+//! How large sets are.
+
+ghost use Rattle.std.specs.Prelude.{◌≡◌, ◌<◌, [], ◌∷◌, ◌++◌, ℕ, List, length, map, All, IfOk, OnOk};
+ghost use Rattle.std.specs.List.{flat_map};
+ghost use Rattle.pc_diagram.specs.Rests.{size};
+ghost use Rattle.pc_store.specs.Each.{NamesEach};
+ghost use Rattle.pc_store.specs.Layered.{row_of, node_count, accepts, IsLayered};
+
+use crate::layer::Layer;
+use indexmap::IndexSet;
+use pc_base::NoMemory;
+use std::alloc::Global;
+
+/// The node of each layer without words.
+pub(crate) const EMPTY: u32 = 0;
+
+/// The size of the set of a node of the first layer: how many nodes with words are reached from it, itself among them.
+pub(crate) fn size_of(alloc: Global, layers: &[Layer], node: u32) -> Result<u64, NoMemory>
+    requires layered { IsLayered layers.now }
+    requires is_node { node < node_count layers.now }
+    ensures { IfOk result (λ n. n ≡ size (map (λ layer. layer.domain) layers.now) (accepts layers.now node)) }
+{
+    let mut nodes = IndexSet::new(alloc);
+    add_each(&mut nodes, &[node])?;
+    let mut count = nodes.len() as u64;
+    for layer in layers {
+        nodes = children_of(alloc, layer, nodes.as_slice())?;
+        count = count.checked_add(nodes.len() as u64).ok_or(NoMemory)?;
+    }
+    Ok(count)
+}
+
+/// The children of nodes, but for the one without words, each once.
+fn children_of(alloc: Global, layer: &Layer, nodes: &[u32]) -> Result<IndexSet<u32>, NoMemory>
+    requires { All (λ node. node < length layer.now.table) nodes.now }
+    ensures { IfOk result (λ children. NamesEach (flat_map (row_of layer.now) nodes.now) children.keys) }
+{
+    let mut children = IndexSet::new(alloc);
+    for node in nodes {
+        add_each(&mut children, layer.table.row(*node as usize))?;
+    }
+    Ok(children)
+}
+
+/// Puts nodes into a set, but for the one without words.
+fn add_each(set: &mut IndexSet<u32>, nodes: &[u32]) -> Result<(), NoMemory>
+    ensures { OnOk result ((before : List ℕ) → NamesEach before set.old.keys → NamesEach (before ++ nodes.now) set.new.keys) }
+{
+    for node in nodes {
+        add(set, *node)?;
+    }
+    Ok(())
+}
+
+/// Puts a node into a set, unless it is the one without words.
+fn add(set: &mut IndexSet<u32>, node: u32) -> Result<(), NoMemory>
+    ensures { OnOk result ((before : List ℕ) → NamesEach before set.old.keys → NamesEach (before ++ node ∷ []) set.new.keys) }
+{
+    if node != EMPTY {
+        set.insert(node)?;
+    }
+    Ok(())
+}
