@@ -1,5 +1,5 @@
 -- What a session asks of its product, and the calls that change it: what they give, or the first refusal.
-use Rattle.std.specs.Prelude.{ℕ, ◌==◌, Bool, not, if◌then◌else◌, List, [], ◌∷◌, ◌++◌, slice_index_or, Ok}
+use Rattle.std.specs.Prelude.{ℕ, ◌==◌, Bool, false, not, if◌then◌else◌, List, [], ◌∷◌, ◌++◌, slice_get, Option, Some, None, Ok}
 use Rattle.std.specs.List.{list_any}
 use Rattle.pc_diagram.specs.declared.bounds.Bounds.{Bounds}
 use Rattle.pc_diagram.specs.declared.choice.Choice.{Choice}
@@ -25,9 +25,14 @@ free = record { choices = []; bounds = no_bounds }
 abbrev pub shown : Contents → Selection → List (List Listed)
 shown file selection = file_listing file selection.choices selection.bounds
 
+-- a value is among the listed values of a variable, if there is such a variable
+abbrev pub is_among : ℕ → Option (List Listed) → Bool
+is_among value None = false
+is_among value (Some items) = list_any (λ item. item.value == value) items
+
 -- a value of a variable is in a listing
 abbrev pub is_in : List (List Listed) → ℕ → ℕ → Bool
-is_in listing variable value = list_any (λ item. item.value == value) (slice_index_or listing variable [])
+is_in listing variable value = is_among value (slice_get listing variable)
 
 -- with this choice at the end; a variable that is chosen keeps its place
 abbrev pub with_choice : Selection → ℕ → ℕ → Selection
