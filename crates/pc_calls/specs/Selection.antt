@@ -22,7 +22,7 @@ abbrev pub free : Selection
 free = record { choices = []; bounds = no_bounds }
 
 -- the listing that a session shows
-abbrev pub shown : Contents → Selection → List (List Listed)
+unfoldable pub shown : Contents → Selection → List (List Listed)
 shown file selection = file_listing file selection.choices selection.bounds
 
 -- a value is among the listed values of a variable, if there is such a variable
