@@ -1,0 +1,4 @@
+pub mod LineWords
+pub mod CommandReader
+pub mod CommandLine
+pub mod CommandTold
