@@ -9,6 +9,7 @@ mod command;
 mod dropped;
 mod entry;
 mod head;
+mod head_text;
 mod kinds;
 mod line_call;
 mod line_words;
@@ -19,6 +20,7 @@ mod reading;
 mod reply;
 mod shared_file;
 mod words_left;
+mod writing;
 
 pub use bad_column::BadColumn;
 pub use call::Call;
@@ -26,6 +28,7 @@ pub use command::Command;
 pub use dropped::{DropList, Dropped};
 pub use entry::Entry;
 pub use head::Head;
+pub use head_text::write_head;
 pub use line_call::LineCall;
 pub use line_words::first_word;
 pub use live::{Live, LiveList};
@@ -34,6 +37,7 @@ pub use placed_word::PlacedWord;
 pub use reading::read_call;
 pub use reply::{Reply, Shown};
 pub use shared_file::SharedFile;
+pub use writing::write_reply;
 
 #[cfg(test)]
 mod tests;
