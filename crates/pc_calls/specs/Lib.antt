@@ -1,6 +1,11 @@
 pub mod Answer
+pub mod CommandLine
+pub mod CommandReader
+pub mod CommandTold
 pub mod Heads
 pub mod History
+pub mod LineWords
+pub mod ReplyText
 pub mod Selection
 pub mod State
 pub mod Step
