@@ -1,6 +1,8 @@
 -- The worked example, by evaluation.
-use Rattle.std.proofs.Common.{◌≡◌, ℕ, Bool, true, ◌&&◌, nat_le, List, [], ◌∷◌, filter, refl, sym, ap, ◌∙◌}
-use Rattle.std.specs.List.{list_all}
+use Rattle.std.proofs.Common.{◌≡◌, ℕ, Bool, true, ◌&&◌, nat_le, List, [], ◌∷◌, ◌++◌, length, map, filter, refl, sym, ap, ◌∙◌}
+use Rattle.std.specs.Prelude.{codes}
+use Rattle.std.specs.Fmt.{digits}
+use Rattle.std.specs.List.{list_all, flat_map}
 use Rattle.std.proofs.lemmas.List.Elements.{filter_agree}
 use Rattle.pc_diagram.specs.Bike.{bikes}
 use Rattle.pc_file.specs.declared.rule.Rule.{Rule, Rule-F, fold-Rule, fold-roll-Rule}
@@ -8,8 +10,10 @@ use Rattle.pc_file.specs.declared.rule.Rule.TheVariants.{Is, Not, And, Implies, 
 use Rattle.pc_file.specs.Rule.{holds, holds_step}
 use Rattle.pc_file.specs.Nesting.{Nesting, nesting, nesting_step}
 use Rattle.pc_file.specs.Limits.{is_spelled_step, is_rule}
+use Rattle.pc_file.specs.PrintedRule.{Printed, printing_step, printed_rule}
+use Rattle.pc_file.specs.PrintedForm.{header_line, cost_line, variable_lines, line_of, end_line, text_of_lines, printed}
 use Rattle.pc_file.specs.Products.{all_words, value_counts, obeys, products}
-use Rattle.pc_file.specs.Bike.{bike}
+use Rattle.pc_file.specs.Bike.{bike, bike_printed}
 
 -- any fold of the two rules, layer by layer
 module _ (A : Type 0) (step : Rule-F A → A) where
@@ -69,3 +73,23 @@ pub bike_rules : list_all (is_rule bike.variables) bike.rules ≡ true
 bike_rules = all_rules (is_rule bike.variables) true true
     (both_true _ _ (at_first Bool (is_spelled_step bike.variables)) shallow_first)
     (both_true _ _ (at_second Bool (is_spelled_step bike.variables)) shallow_second)
+
+printed_first : printed_rule bike.variables (Implies (Is 0 2) (Is 1 1)) ≡ codes "frame=carbon => wheel=w28"
+printed_first = ap (λ r. r.text) (at_first Printed (printing_step bike.variables))
+
+printed_second : printed_rule bike.variables (Not (And (Is 0 0 ∷ Is 2 1 ∷ []))) ≡ codes "not (frame=steel and light=led)"
+printed_second = ap (λ r. r.text) (at_second Printed (printing_step bike.variables))
+
+-- the text, where the two rules are printed so
+text_with : List ℕ → List ℕ → List ℕ
+text_with first second = text_of_lines (
+    header_line
+    ∷ map cost_line bike.costs
+    ++ (flat_map (variable_lines (length bike.costs)) bike.variables
+    ++ (line_of (codes "rule" ∷ first ∷ []) ∷ line_of (codes "rule" ∷ second ∷ []) ∷ [] ++ end_line ∷ [])))
+
+pub bike_text : printed bike ≡ bike_printed
+unfolding text_with digits
+bike_text =
+    ap (λ first. text_with first (printed_rule bike.variables (Not (And (Is 0 0 ∷ Is 2 1 ∷ []))))) printed_first
+    ∙ ap (text_with (codes "frame=carbon => wheel=w28")) printed_second

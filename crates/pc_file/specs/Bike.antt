@@ -42,3 +42,23 @@ bike_text =
     ++ line (codes "var light")
     ++ line (codes "val none 380 3 : steel w26 none")
     ++ line (codes "val led 620 3 : alloy w26 led")
+
+-- its printed form
+abbrev pub bike_printed : List ℕ
+bike_printed =
+    line (codes "product 1")
+    ++ line (codes "cost price")
+    ++ line (codes "cost days")
+    ++ line (codes "variable frame")
+    ++ line (codes "value steel 300 2")
+    ++ line (codes "value alloy 500 1")
+    ++ line (codes "value carbon 900 5")
+    ++ line (codes "variable wheel")
+    ++ line (codes "value w26 80 1")
+    ++ line (codes "value w28 120 1")
+    ++ line (codes "variable light")
+    ++ line (codes "value none 0 0")
+    ++ line (codes "value led 40 1")
+    ++ line (codes "rule frame=carbon => wheel=w28")
+    ++ line (codes "rule not (frame=steel and light=led)")
+    ++ line (codes "end")

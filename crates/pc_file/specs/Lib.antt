@@ -1,8 +1,11 @@
 pub mod Spelling
 pub mod Catalogue
 pub mod Names
+pub mod Contents
 pub mod Rule
 pub mod Nesting
+pub mod PrintedRule
+pub mod PrintedForm
 pub mod Limits
 pub mod Positions
 pub mod Words

@@ -11,12 +11,7 @@ use Rattle.pc_file.specs.declared.rule.Rule.TheOpen.{Rule-F, Is, IsNot, OneOf, N
 use Rattle.pc_file.specs.declared.rule.Rule.TheFolds.{fold-Rule}
 use Rattle.pc_file.specs.Names.{value_name}
 use Rattle.pc_file.specs.Nesting.{nesting}
-
--- what a file says: its costs, its variables with their values, and its rules
-pub record Contents : Type 0 where
-  pub costs : List (List ℕ)
-  pub variables : List Variable
-  pub rules : List Rule
+pub use Rattle.pc_file.specs.Contents.{Contents}
 
 -- the words of the rule language, which name no variable
 abbrev pub reserved_words : List (List ℕ)

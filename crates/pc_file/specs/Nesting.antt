@@ -17,18 +17,34 @@ open_in_place asked rule = if nat_lt rule.strength asked then rule.open_at_most 
 abbrev pub open_in_places : ℕ → List Nesting → ℕ
 open_in_places asked rules = fold max 0 (map (open_in_place asked) rules)
 
+-- how much one layer of a rule binds where it is printed
+abbrev pub strength_of : {A : Type 0} → Rule-F A → ℕ
+strength_of (Is variable value) = 4
+strength_of (IsNot variable value) = 4
+strength_of (OneOf variable values) = 4
+strength_of (Not rule) = 3
+strength_of (And rules) = 2
+strength_of (Or rules) = 1
+strength_of (Implies rule consequence) = 0
+strength_of (Same variable other) = 4
+strength_of (AtMost most rules) = 4
+strength_of (Table variables rows) = 4
+
 -- One layer of a rule, with what is known of each subrule in its place.
+abbrev pub open_at_most_of : Rule-F Nesting → ℕ
+open_at_most_of (Is variable value) = 0
+open_at_most_of (IsNot variable value) = 0
+open_at_most_of (OneOf variable values) = 0
+open_at_most_of (Not rule) = open_in_place 4 rule
+open_at_most_of (And rules) = open_in_places 3 rules
+open_at_most_of (Or rules) = open_in_places 2 rules
+open_at_most_of (Implies rule consequence) = max (open_in_place 1 rule) (open_in_place 1 consequence)
+open_at_most_of (Same variable other) = 1
+open_at_most_of (AtMost most rules) = open_in_places 0 rules + 1
+open_at_most_of (Table variables rows) = 1
+
 abbrev pub nesting_step : Rule-F Nesting → Nesting
-nesting_step (Is variable value) = record { strength = 4; open_at_most = 0 }
-nesting_step (IsNot variable value) = record { strength = 4; open_at_most = 0 }
-nesting_step (OneOf variable values) = record { strength = 4; open_at_most = 0 }
-nesting_step (Not rule) = record { strength = 3; open_at_most = open_in_place 4 rule }
-nesting_step (And rules) = record { strength = 2; open_at_most = open_in_places 3 rules }
-nesting_step (Or rules) = record { strength = 1; open_at_most = open_in_places 2 rules }
-nesting_step (Implies rule consequence) = record { strength = 0; open_at_most = max (open_in_place 1 rule) (open_in_place 1 consequence) }
-nesting_step (Same variable other) = record { strength = 4; open_at_most = 1 }
-nesting_step (AtMost most rules) = record { strength = 4; open_at_most = open_in_places 0 rules + 1 }
-nesting_step (Table variables rows) = record { strength = 4; open_at_most = 1 }
+nesting_step rule = record { strength = strength_of rule; open_at_most = open_at_most_of rule }
 
 abbrev pub nesting : Rule → Nesting
 nesting = fold-Rule Nesting nesting_step

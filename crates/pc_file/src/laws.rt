@@ -10,18 +10,20 @@ ghost use Rattle.pc_file.specs.Limits.{Contents, IsFile, variable_names, value_n
 ghost use Rattle.pc_file.specs.Products.{value_counts, obeys, products};
 ghost use Rattle.pc_file.specs.Costs.{costs_of, file_listing};
 ghost use Rattle.pc_file.specs.ListingText.{listing_text};
+ghost use Rattle.pc_file.specs.PrintedForm.{printed};
 ghost use Rattle.pc_file.specs.Positions.{variable_named, value_named};
 ghost use Rattle.pc_file.specs.Words.{is_word, is_before};
-ghost use Rattle.pc_file.specs.Bike.{bike, bike_text};
+ghost use Rattle.pc_file.specs.Bike.{bike, bike_text, bike_printed};
 
-/// The worked example, by evaluation: it keeps all limits, these are its products, and this is the text of what is
-/// listed of it with no choice and no bound.
+/// The worked example, by evaluation: it keeps all limits, these are its products, this is the text of what is
+/// listed of it with no choice and no bound, and this its printed form.
 pub fn bike_has_eight_products()
     ensures limits { IsFile bike }
     ensures products { products bike ≡ bikes }
     ensures costs { costs_of bike.variables ≡ bike_costs }
     ensures listing { file_listing bike [] no_bounds ≡ open_listing }
     ensures text { listing_text bike.variables open_listing ≡ bike_text }
+    ensures printed { printed bike ≡ bike_printed }
 {}
 
 /// The products of a file are exactly the words, with a value of each variable, for which every rule holds. Each

@@ -10,23 +10,23 @@ use Rattle.pc_file.specs.declared.catalogue.Catalogue.{Catalogue}
 use Rattle.pc_file.specs.declared.rule.Rule.{Rule, Rule-F, fold-Rule}
 use Rattle.pc_file.specs.declared.rule.Rule.TheVariants as rule
 use Rattle.pc_file.proofs.BikeLemmas.{bike_rules}
-use Rattle.pc_text.specs.declared.checks.AtMostFault.TheVariants.{Number, Length}
-use Rattle.pc_text.specs.declared.phrase.Phrase.{Phrase-F, fold-Phrase}
-use Rattle.pc_text.specs.declared.phrase.Phrase.TheVariants.{Is, Not, And, Implies}
-use Rattle.pc_text.specs.declared.token.Sign.TheVariants.{Arrow, Equal, Open, Close}
-use Rattle.pc_text.specs.declared.token.Token.TheVariants.{Mark, Word}
+use Rattle.pc_rules.specs.declared.checks.AtMostFault.TheVariants.{Number, Length}
+use Rattle.pc_rules.specs.declared.phrase.Phrase.{Phrase-F, fold-Phrase}
+use Rattle.pc_rules.specs.declared.phrase.Phrase.TheVariants.{Is, Not, And, Implies}
+use Rattle.pc_rules.specs.declared.token.Sign.TheVariants.{Arrow, Equal, Open, Close}
+use Rattle.pc_rules.specs.declared.token.Token.TheVariants.{Mark, Word}
 use Rattle.pc_text.specs.Given.{catalogue_of}
-use Rattle.pc_text.specs.Grammar as grammar
+use Rattle.pc_rules.specs.Grammar as grammar
 use Rattle.pc_text.specs.LineWords.{words, first_word, from_word, after_word}
-use Rattle.pc_text.specs.Naming.{named_step, variable_at, value_at}
-use Rattle.pc_text.specs.Outcome.{Outcome}
-use Rattle.pc_text.specs.RuleFaults.{fault_step, test_of, repeat_step}
-use Rattle.pc_text.specs.RuleText.{IsRuleText}
+use Rattle.pc_rules.specs.Naming.{named_step, variable_at, value_at}
+use Rattle.pc_rules.specs.Outcome.{Outcome}
+use Rattle.pc_rules.specs.RuleFaults.{fault_step, test_of, repeat_step}
+use Rattle.pc_rules.specs.RuleText.{IsRuleText}
 use Rattle.pc_text.specs.Spells.{IsSmallText, Spells, significant_lines}
 use Rattle.pc_text.specs.Statement.{Says, statements}
-use Rattle.pc_text.specs.Token.{first_token, tokens_of, is_too_deep}
-use Rattle.pc_text.proofs.PhraseFolds as phrases
-use Rattle.pc_text.proofs.RuleFolds as rules
+use Rattle.pc_rules.specs.Token.{first_token, tokens_of, is_too_deep}
+use Rattle.pc_rules.proofs.PhraseFolds as phrases
+use Rattle.pc_rules.proofs.RuleFolds as rules
 
 -- a line with its line feed
 abbrev line : List ℕ → List ℕ

@@ -2,8 +2,8 @@
 use Rattle.std.proofs.Common.{◌≡◌, ℕ, ◌+◌, ◌-◌, ◌<◌, ◌≤◌, true, false, ◌⊎◌, min, List, [], ◌∷◌, ◌++◌, length, drop, Some, None, refl, sym, ap, ◌∙◌, inl, inr, arith, length-append}
 use Rattle.pc_base.specs.Lines.{first_line, after_line, lines}
 use Rattle.pc_base.proofs.LineCuts.{Cut, none, feed, cut, first_line-whole, from_feed-none, first_line-at_feed, from_feed-at_feed, lines-first, lines-nil}
-use Rattle.pc_text.specs.declared.kind.Kind.{Kind}
-use Rattle.pc_text.specs.declared.kind.Kind.TheVariants.{Size}
+use Rattle.pc_rules.specs.declared.kind.Kind.{Kind}
+use Rattle.pc_rules.specs.declared.kind.Kind.TheVariants.{Size}
 use Rattle.pc_text.specs.Given.{Given}
 use Rattle.pc_text.specs.Orders.{or_else}
 use Rattle.pc_text.specs.FirstFault.{is_large, size_fault, line_fault, give_line, end_fault, at, or_later, fault_from, first_fault, given_from}

@@ -17,11 +17,11 @@ use Rattle.pc_file.specs.declared.variable.Variable.{Variable}
 use Rattle.pc_file.specs.Limits.{Contents, IsFile, is_reserved}
 use Rattle.pc_text.specs.declared.keyword.Keyword.{Keyword}
 use Rattle.pc_text.specs.declared.keyword.Keyword.TheVariants as keyword
-use Rattle.pc_text.specs.declared.kind.Kind.{Kind}
+use Rattle.pc_rules.specs.declared.kind.Kind.{Kind}
 use Rattle.pc_text.specs.LineWords.{after_word}
 use Rattle.pc_text.specs.Given.{Given, nothing_given, variables_given, catalogue_of, is_skipped, keyword_at, arguments_at, argument, value_given, with_value, give_statement, contents_given}
 use Rattle.pc_text.specs.Orders.{comes_wrong}
-use Rattle.pc_text.specs.RuleText.{rule_of}
+use Rattle.pc_rules.specs.RuleText.{rule_of}
 use Rattle.pc_text.specs.FirstFault.{line_fault, give_line, end_fault, given_from, first_fault, given_by}
 use Rattle.pc_text.specs.Statement.{Statement, header, a_cost, a_variable, a_value, a_rule, end, Says, statements, variable_statements}
 use Rattle.pc_text.specs.Spells.{Spells, is_significant, significant_lines}

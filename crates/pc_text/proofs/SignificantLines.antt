@@ -5,11 +5,11 @@ use Rattle.std.specs.List.{filter, list_all, onto_first}
 use Rattle.std.proofs.lemmas.Bool.{cases_Bool, ltb-false, le-ltb, le-leb, leb-true}
 use Rattle.pc_base.specs.Lines.{lines}
 use Rattle.pc_base.proofs.DistinctLemmas.{both_true_parts, both_false_parts}
-use Rattle.pc_text.specs.declared.kind.Kind.{Kind}
+use Rattle.pc_rules.specs.declared.kind.Kind.{Kind}
 use Rattle.pc_text.specs.LineWords.{after_word}
 use Rattle.pc_text.specs.Given.{Given, nothing_given, variables_given, catalogue_of, is_skipped, keyword_at, arguments_at, give_statement}
 use Rattle.pc_text.specs.Orders.{or_else, statement_fault}
-use Rattle.pc_text.specs.RuleText.{rule_of}
+use Rattle.pc_rules.specs.RuleText.{rule_of}
 use Rattle.pc_text.specs.FirstFault.{is_large, size_fault, line_fault, give_line, end_fault, at, or_later, fault_from, given_from, first_fault, given_by}
 use Rattle.pc_text.specs.Spells.{is_small_line, is_significant, significant_lines, IsSmallText}
 use Rattle.pc_text.proofs.FaultLemmas.{fault_from-nil, fault_from-cons, given_from-cons}

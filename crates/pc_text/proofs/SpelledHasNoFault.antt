@@ -16,11 +16,11 @@ use Rattle.pc_file.specs.declared.variable.Variable.{Variable}
 use Rattle.pc_file.specs.Limits.{Contents, IsFile, is_value, is_variable, is_sized, is_reserved, value_names, variable_names, values_differ}
 use Rattle.pc_text.specs.declared.keyword.Keyword.{Keyword}
 use Rattle.pc_text.specs.declared.keyword.Keyword.TheVariants as keyword
-use Rattle.pc_text.specs.declared.kind.Kind.{Kind}
+use Rattle.pc_rules.specs.declared.kind.Kind.{Kind}
 use Rattle.pc_text.specs.Keyword.{follows}
 use Rattle.pc_text.specs.LineWords.{after_word}
 use Rattle.pc_text.specs.Given.{Given, nothing_given, variables_given, catalogue_of, is_skipped, keyword_at, arguments_at, with_value, give_statement, contents_given}
-use Rattle.pc_text.specs.RuleText.{rule_of}
+use Rattle.pc_rules.specs.RuleText.{rule_of}
 use Rattle.pc_text.specs.FirstFault.{line_fault, give_line, end_fault, given_from, first_fault, given_by}
 use Rattle.pc_text.specs.Statement.{Statement, header, a_cost, a_variable, a_value, a_rule, end, Says, statements, variable_statements, value_words}
 use Rattle.pc_text.specs.Spells.{Spells, significant_lines}

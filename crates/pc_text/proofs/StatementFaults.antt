@@ -2,8 +2,8 @@
 use Rattle.std.proofs.Common.{◌≡◌, Bool, true, false, List, [], ◌∷◌, ℕ, Option, Some, None, Result, refl}
 use Rattle.pc_file.specs.declared.rule.Rule.{Rule}
 use Rattle.pc_text.specs.declared.keyword.Keyword.{Keyword}
-use Rattle.pc_text.specs.declared.kind.Kind.{Kind}
-use Rattle.pc_text.specs.declared.kind.Kind.TheVariants as kind
+use Rattle.pc_rules.specs.declared.kind.Kind.{Kind}
+use Rattle.pc_rules.specs.declared.kind.Kind.TheVariants as kind
 use Rattle.pc_text.specs.Given.{Given}
 use Rattle.pc_text.specs.Orders.{first_standing, is_wrong_header, comes_wrong, expected_after, is_malformed, kind_named, has_wrong_number, is_one_too_many, is_repeated, orders, fault_of_rule, or_else, statement_fault}
 

@@ -5,9 +5,9 @@ use Rattle.pc_names.specs.Name.{is_name}
 use Rattle.pc_file.specs.Limits.{is_reserved}
 use Rattle.std.specs.List.{list_all}
 use Rattle.pc_file.specs.declared.variable.Value.{Value}
-use Rattle.pc_text.specs.declared.fault.RuleFault.{RuleFault}
-use Rattle.pc_text.specs.declared.fault.RuleFault.TheVariants.{Fault}
-use Rattle.pc_text.specs.declared.kind.Kind.TheVariants as kind
+use Rattle.pc_rules.specs.declared.fault.RuleFault.{RuleFault}
+use Rattle.pc_rules.specs.declared.fault.RuleFault.TheVariants.{Fault}
+use Rattle.pc_rules.specs.declared.kind.Kind.TheVariants as kind
 use Rattle.pc_text.specs.Given.{argument, value_given}
 use Rattle.pc_text.specs.Orders.{is_cost_text}
 

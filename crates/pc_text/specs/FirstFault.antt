@@ -3,12 +3,12 @@ use Rattle.std.specs.Prelude.{ℕ, ◌+◌, nat_lt, min, Bool, ◌||◌, if◌th
 use Rattle.pc_base.specs.Lines.{lines}
 use Rattle.pc_text.specs.declared.keyword.Keyword.{Keyword}
 use Rattle.pc_text.specs.declared.keyword.Keyword.TheVariants as keyword
-use Rattle.pc_text.specs.declared.kind.Kind.{Kind}
-use Rattle.pc_text.specs.declared.kind.Kind.TheVariants as kind
+use Rattle.pc_rules.specs.declared.kind.Kind.{Kind}
+use Rattle.pc_rules.specs.declared.kind.Kind.TheVariants as kind
 use Rattle.pc_text.specs.LineWords.{after_word}
 use Rattle.pc_text.specs.Given.{Given, nothing_given, variables_given, catalogue_of, is_skipped, keyword_at, arguments_at, give_statement}
 use Rattle.pc_text.specs.Orders.{or_else, statement_fault}
-use Rattle.pc_text.specs.RuleText.{rule_of}
+use Rattle.pc_rules.specs.RuleText.{rule_of}
 
 -- a line has more than 65,536 bytes, or is line 8,193 or a later one, or ends, with its line feed, past byte 1,048,576
 abbrev pub is_large : ℕ → ℕ → List ℕ → Bool

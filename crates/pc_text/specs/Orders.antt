@@ -9,8 +9,8 @@ use Rattle.pc_file.specs.Limits.{is_cost, is_reserved, variable_names, value_nam
 use Rattle.pc_file.specs.Spelling.{same_spelling}
 use Rattle.pc_text.specs.declared.keyword.Keyword.{Keyword}
 use Rattle.pc_text.specs.declared.keyword.Keyword.TheVariants as keyword
-use Rattle.pc_text.specs.declared.kind.Kind.{Kind}
-use Rattle.pc_text.specs.declared.kind.Kind.TheVariants as kind
+use Rattle.pc_rules.specs.declared.kind.Kind.{Kind}
+use Rattle.pc_rules.specs.declared.kind.Kind.TheVariants as kind
 use Rattle.pc_text.specs.Keyword.{follows, expected, named}
 use Rattle.pc_text.specs.Given.{Given, variables_given, argument}
 

@@ -3,8 +3,8 @@ use Rattle.std.specs.Prelude.{◌≡◌, ℕ, Bool, nat_le, List, [], ◌∷◌,
 use Rattle.std.specs.Option.{option_to_list, IfSome}
 use Rattle.std.specs.List.{list_any}
 use Rattle.pc_file.specs.Spelling.{same_spelling}
-use Rattle.pc_text.specs.declared.kind.Kind.{Kind}
-use Rattle.pc_text.specs.declared.kind.Kind.TheVariants as kind
+use Rattle.pc_rules.specs.declared.kind.Kind.{Kind}
+use Rattle.pc_rules.specs.declared.kind.Kind.TheVariants as kind
 use Rattle.pc_file.specs.declared.variable.Variable.{Variable}
 use Rattle.pc_file.specs.Limits.{variable_names, value_names}
 use Rattle.pc_text.specs.declared.reader.OpenVariable.{OpenVariable}

@@ -9,7 +9,7 @@ use Rattle.pc_file.specs.declared.variable.Variable.{Variable}
 use Rattle.pc_file.specs.Limits.{Contents}
 use Rattle.pc_text.specs.LineWords.{words, first_word, after_word}
 use Rattle.pc_text.specs.Given.{catalogue_of}
-use Rattle.pc_text.specs.RuleText.{IsRuleText}
+use Rattle.pc_rules.specs.RuleText.{IsRuleText}
 
 -- a statement: the header, the name of a cost or of a variable, a value of the variable named last, a rule, or the end
 pub data Statement : Type 0 where

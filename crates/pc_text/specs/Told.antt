@@ -1,8 +1,8 @@
 -- What a function of the reader tells, set beside what reading gives. Want of memory tells nothing.
 use Rattle.std.specs.Prelude.{◌≡◌, ℕ, Option, Some, None, Result, Ok, Err}
-use Rattle.pc_text.specs.declared.fault.RuleFault.{RuleFault}
-use Rattle.pc_text.specs.declared.fault.RuleFault.TheVariants.{Fault, NoMemory}
-use Rattle.pc_text.specs.declared.kind.Kind.{Kind}
+use Rattle.pc_rules.specs.declared.fault.RuleFault.{RuleFault}
+use Rattle.pc_rules.specs.declared.fault.RuleFault.TheVariants.{Fault, NoMemory}
+use Rattle.pc_rules.specs.declared.kind.Kind.{Kind}
 use Rattle.pc_text.specs.declared.text_fault.TextFault.{TextFault}
 use Rattle.pc_text.specs.declared.text_fault.TextFault.TheVariants.{At}
 use Rattle.pc_text.specs.declared.text_fault.TextFault.TheVariants as text

@@ -4,7 +4,7 @@ ghost use Rattle.std.specs.Prelude.{◌≡◌};
 ghost use Rattle.pc_file.specs.Spelling.{same_spelling};
 ghost use Rattle.pc_text.specs.Keyword.{keyword_of, follows, expected, named};
 
-use crate::kind::Kind;
+use pc_rules::Kind;
 
 /// What a statement is about, which its first word tells.
 #[derive(Clone, Copy, Debug, PartialEq, Eq)]

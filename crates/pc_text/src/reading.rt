@@ -6,9 +6,9 @@ ghost use Rattle.pc_text.specs.FirstFault.{end_fault, first_fault, give_line, gi
 ghost use Rattle.pc_text.specs.Reader.{Holds, IsIndexed, given_of};
 ghost use Rattle.pc_text.specs.Told.{AnswersAt, ReadsText};
 
-use crate::fault::RuleFault;
+use pc_rules::RuleFault;
 use crate::keyword::Keyword;
-use crate::kind::Kind;
+use pc_rules::Kind;
 use crate::lines::cut_line;
 use crate::reader::Reader;
 use crate::text_fault::TextFault;

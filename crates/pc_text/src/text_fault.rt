@@ -1,6 +1,6 @@
 //! Why a text is no product file.
 
-use crate::kind::Kind;
+use pc_rules::Kind;
 use pc_base::NoMemory;
 use thiserror::Error;
 

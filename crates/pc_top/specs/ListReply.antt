@@ -5,11 +5,11 @@ use Rattle.pc_file.specs.Costs.{file_listing}
 use Rattle.pc_file.specs.Limits.{Contents}
 use Rattle.pc_file.specs.ListingText.{listing_text}
 use Rattle.pc_file.specs.Products.{products, words_of}
-use Rattle.pc_text.specs.declared.kind.Kind.{Kind}
+use Rattle.pc_rules.specs.declared.kind.Kind.{Kind}
 use Rattle.pc_text.specs.Crowded.{crowded_line}
 use Rattle.pc_text.specs.FirstFault.{first_fault, given_by}
 use Rattle.pc_text.specs.Given.{contents_given}
-use Rattle.pc_text.specs.KindWord.{kind_word}
+use Rattle.pc_rules.specs.KindWord.{kind_word}
 use Rattle.pc_top.specs.declared.status.Status.{Status}
 use Rattle.pc_top.specs.declared.status.Status.TheVariants.{Done, Refused}
 

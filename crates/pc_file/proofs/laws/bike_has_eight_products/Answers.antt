@@ -4,7 +4,7 @@ use Rattle.pc_diagram.specs.Bounds.{no_bounds}
 use Rattle.pc_diagram.specs.Listing.{listing}
 use Rattle.pc_file.specs.Costs.{costs_of}
 use Rattle.pc_file.specs.Bike.{bike}
-use Rattle.pc_file.proofs.BikeLemmas.{bike_products, bike_rules}
+use Rattle.pc_file.proofs.BikeLemmas.{bike_products, bike_rules, bike_text}
 use Rattle.pc_file.proofs.laws.bike_has_eight_products.Goals as goal
 
 pub returns-clause-limits : goal.returns-clause-limits
@@ -29,3 +29,6 @@ returns-clause-listing c = ap (λ words. listing (costs_of bike.variables) words
 pub returns-clause-text : goal.returns-clause-text
 unfolding digits
 returns-clause-text c = refl
+
+pub returns-clause-printed : goal.returns-clause-printed
+returns-clause-printed c = bike_text

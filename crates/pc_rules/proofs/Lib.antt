@@ -1,0 +1,17 @@
+pub mod CountLemmas
+pub mod Depth
+pub mod GrammarComplete
+pub mod GrammarSound
+pub mod Levels
+pub mod OutcomeLemmas
+pub mod PhraseFolds
+pub mod PhraseLemmas
+pub mod Positions
+pub mod Readers
+pub mod RuleFolds
+pub mod RuleRead
+pub mod Shallow
+pub mod Spelled
+pub mod Spellers
+pub mod TokenLemmas
+pub mod Turns

@@ -1,0 +1,7 @@
+use Rattle.std.proofs.Common.{◌≡◌, ◌-◌}
+use Rattle.pc_rules.specs.declared.token.Sign.TheVariants.{Comma}
+use Rattle.pc_rules.specs.Words.{variable, listed, eat, several_from}
+use Rattle.pc_rules.proofs.lists.variables.Given as goal
+
+abbrev pub invariant-loop-turn : goal.invariant-loop-turn
+invariant-loop-turn l = listed variable l.fn.cursor ≡ several_from variable (eat Comma) (l._turn-end - l._turn) l.found l.cursor

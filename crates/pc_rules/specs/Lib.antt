@@ -1,0 +1,10 @@
+pub mod Counts
+pub mod Grammar
+pub mod KindWord
+pub mod Naming
+pub mod Outcome
+pub mod Reading
+pub mod RuleFaults
+pub mod RuleText
+pub mod Token
+pub mod Words

@@ -1,0 +1,183 @@
+//! The rule that a phrase names, with positions in place of words.
+
+ghost use Rattle.std.specs.Prelude.{◌≡◌, ◌^◌, map};
+ghost use Rattle.pc_rules.specs.Outcome.{Gives};
+ghost use Rattle.pc_rules.specs.Naming as spec;
+
+use crate::count::count_of;
+use crate::fault::RuleFault;
+use crate::kind::Kind;
+use crate::phrase::Phrase;
+use crate::token::Word;
+use pc_base::Sequence;
+use pc_file::{Catalogue, Rule};
+use pc_names::Name;
+use sqlite_items::{Boxed, Items};
+use std::alloc::Global;
+
+fn unknown() -> RuleFault
+    ensures { result ≡ RuleFault.Fault Kind.Unknown }
+{
+    RuleFault::Fault(Kind::Unknown)
+}
+
+fn position_or_unknown(found: Option<usize>) -> Result<u32, RuleFault>
+    ensures { Gives (λ position. position) result (spec.position_or_unknown found) }
+{
+    match found {
+        Some(position) if position <= u32::MAX as usize => Ok(position as u32),
+        _ => Err(unknown()),
+    }
+}
+
+/// Where the variable stands that a word names.
+#[tactic(auto, unfolding(crate::specs::Naming::variable_at))]
+fn variable_at(names: &Catalogue, word: &Word<'_>) -> Result<u32, RuleFault>
+    ensures { Gives (λ position. position) result (spec.variable_at names.now word.now) }
+{
+    match Name::read(word.as_bytes()) {
+        Ok(name) => position_or_unknown(names.variable(&name)),
+        Err(_) => Err(unknown()),
+    }
+}
+
+/// Where the value of a variable stands that a word names.
+#[tactic(auto, unfolding(crate::specs::Naming::value_at))]
+fn value_at(names: &Catalogue, variable: u32, word: &Word<'_>) -> Result<u32, RuleFault>
+    ensures { Gives (λ position. position) result (spec.value_at names.now variable word.now) }
+{
+    match Name::read(word.as_bytes()) {
+        Ok(name) => position_or_unknown(names.value(variable as usize, &name)),
+        Err(_) => Err(unknown()),
+    }
+}
+
+#[tactic(auto, unfolding(crate::specs::Naming::variables_at))]
+fn variables_at(
+    alloc: Global,
+    names: &Catalogue,
+    words: &[Word<'_>],
+) -> Result<Sequence<u32>, RuleFault>
+    ensures { Gives (λ positions. positions) result (spec.variables_at names.now words.now) }
+{
+    let mut positions = Sequence::new(alloc);
+    for word in words {
+        positions.push(variable_at(names, word)?)?;
+    }
+    Ok(positions)
+}
+
+#[tactic(auto, unfolding(crate::specs::Naming::values_at))]
+fn values_at(
+    alloc: Global,
+    names: &Catalogue,
+    variable: u32,
+    words: &[Word<'_>],
+) -> Result<Sequence<u32>, RuleFault>
+    ensures { Gives (λ positions. positions) result (spec.values_at names.now variable words.now) }
+{
+    let mut positions = Sequence::new(alloc);
+    for word in words {
+        positions.push(value_at(names, variable, word)?)?;
+    }
+    Ok(positions)
+}
+
+/// A value of each variable.
+#[tactic(auto, unfolding(crate::specs::Naming::row_at))]
+fn row_at(
+    alloc: Global,
+    names: &Catalogue,
+    variables: &[u32],
+    words: &[Word<'_>],
+) -> Result<Sequence<u32>, RuleFault>
+    ensures { Gives (λ positions. positions) result (spec.row_at names.now variables.now words.now) }
+{
+    let mut positions = Sequence::new(alloc);
+    for (variable, word) in variables.iter().zip(words) {
+        positions.push(value_at(names, *variable, word)?)?;
+    }
+    Ok(positions)
+}
+
+#[tactic(auto, unfolding(crate::specs::Naming::rows_at))]
+fn rows_at(
+    alloc: Global,
+    names: &Catalogue,
+    variables: &[u32],
+    rows: &[Sequence<Word<'_>>],
+) -> Result<Sequence<Sequence<u32>>, RuleFault>
+    ensures { Gives (λ rows. rows) result (spec.rows_at names.now variables.now rows.now) }
+{
+    let mut found = Sequence::new(alloc);
+    for row in rows {
+        found.push(row_at(alloc, names, variables, row.as_slice())?)?;
+    }
+    Ok(found)
+}
+
+/// The rule that a phrase names.
+#[cycle(naming)]
+pub fn rule_named(alloc: Global, names: &Catalogue, phrase: &Phrase<'_>) -> Result<Rule, RuleFault>
+    ensures { Gives (λ rule. rule) result (spec.rule_named names.now phrase.now) }
+{
+    match phrase {
+        Phrase::Is { variable, value } => {
+            let variable = variable_at(names, variable)?;
+            let value = value_at(names, variable, value)?;
+            Ok(Rule::Is { variable, value })
+        }
+        Phrase::IsNot { variable, value } => {
+            let variable = variable_at(names, variable)?;
+            let value = value_at(names, variable, value)?;
+            Ok(Rule::IsNot { variable, value })
+        }
+        Phrase::OneOf { variable, values } => {
+            let variable = variable_at(names, variable)?;
+            let values = values_at(alloc, names, variable, values.as_slice())?;
+            Ok(Rule::OneOf { variable, values })
+        }
+        Phrase::Not(inner) => {
+            let inner = rule_named(alloc, names, inner.get())?;
+            Ok(Rule::Not(Boxed::new(alloc, inner)?))
+        }
+        Phrase::And(members) => Ok(Rule::And(all_named(alloc, names, members.as_slice())?)),
+        Phrase::Or(members) => Ok(Rule::Or(all_named(alloc, names, members.as_slice())?)),
+        Phrase::Implies(premise, conclusion) => {
+            let premise = rule_named(alloc, names, premise.get())?;
+            let conclusion = rule_named(alloc, names, conclusion.get())?;
+            Ok(Rule::Implies(Boxed::new(alloc, premise)?, Boxed::new(alloc, conclusion)?))
+        }
+        Phrase::Same(first, second) => {
+            let first = variable_at(names, first)?;
+            let second = variable_at(names, second)?;
+            Ok(Rule::Same(first, second))
+        }
+        Phrase::AtMost { most, members } => {
+            // That it is a number from 0 to 64 was seen before.
+            let most = count_of(most.as_bytes()).unwrap_or(0);
+            let members = all_named(alloc, names, members.as_slice())?;
+            Ok(Rule::AtMost { most, members })
+        }
+        Phrase::Table { variables, rows } => {
+            let variables = variables_at(alloc, names, variables.as_slice())?;
+            let rows = rows_at(alloc, names, variables.as_slice(), rows.as_slice())?;
+            Ok(Rule::Table { variables, rows })
+        }
+    }
+}
+
+#[cycle(naming)]
+fn all_named(
+    alloc: Global,
+    names: &Catalogue,
+    phrases: &[Phrase<'_>],
+) -> Result<Items<Rule>, RuleFault>
+    ensures { Gives (λ rules. rules) result (spec.all_ok (map (spec.rule_named names.now) phrases.now)) }
+{
+    let mut rules = Items::new(alloc);
+    for phrase in phrases {
+        rules.push(rule_named(alloc, names, phrase)?)?;
+    }
+    Ok(rules)
+}

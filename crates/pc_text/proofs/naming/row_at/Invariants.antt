@@ -1,8 +1,0 @@
-use Rattle.std.proofs.Common.{◌≡◌, length}
-use Rattle.std.specs.List.{zip}
-use Rattle.pc_text.specs.Naming.{value_at, row_at}
-use Rattle.pc_text.proofs.OutcomeLemmas.{with_front}
-use Rattle.pc_text.proofs.naming.row_at.Given as goal
-
-abbrev pub invariant-loop-variable : goal.invariant-loop-variable
-invariant-loop-variable l = row_at l.names l.variables l.words ≡ with_front (λ p. value_at l.names p.0 p.1) (zip l.variables l.words) (length l.yielded) l.positions

@@ -1,7 +1,0 @@
-use Rattle.std.proofs.Common.{◌≡◌}
-use Rattle.pc_text.specs.Naming.{value_at, values_at}
-use Rattle.pc_text.proofs.OutcomeLemmas.{with_front}
-use Rattle.pc_text.proofs.naming.values_at.Given as goal
-
-abbrev pub invariant-loop-word : goal.invariant-loop-word
-invariant-loop-word l = values_at l.names l.variable l.words ≡ with_front (value_at l.names l.variable) l.words l.word-index l.positions

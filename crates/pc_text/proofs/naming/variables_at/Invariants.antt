@@ -1,7 +1,0 @@
-use Rattle.std.proofs.Common.{◌≡◌}
-use Rattle.pc_text.specs.Naming.{variable_at, variables_at}
-use Rattle.pc_text.proofs.OutcomeLemmas.{with_front}
-use Rattle.pc_text.proofs.naming.variables_at.Given as goal
-
-abbrev pub invariant-loop-word : goal.invariant-loop-word
-invariant-loop-word l = variables_at l.names l.words ≡ with_front (variable_at l.names) l.words l.word-index l.positions
