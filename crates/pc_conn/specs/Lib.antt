@@ -1,0 +1,4 @@
+pub mod Answers
+pub mod BodyText
+pub mod Reading
+pub mod Took
