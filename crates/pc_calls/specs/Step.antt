@@ -1,5 +1,5 @@
 -- What each call does to the state, or the first of its refusals that stands. A refused call leaves the state.
-use Rattle.std.specs.Prelude.{ℕ, zero, suc, ◌==◌, ◌+◌, nat_le, Bool, true, false, not, if◌then◌else◌, List, [], ◌∷◌, ◌++◌, map, filter, length, Option, Some, None, Ok, Err}
+use Rattle.std.specs.Prelude.{ℕ, zero, suc, ◌==◌, ◌+◌, nat_le, Bool, true, false, not, if◌then◌else◌, List, [], ◌∷◌, ◌++◌, filter, length, Option, Some, None, Ok, Err}
 use Rattle.pc_file.specs.Limits.{Contents}
 use Rattle.pc_file.specs.Products.{products}
 use Rattle.pc_calls.specs.declared.call.Call.{Call}
@@ -55,10 +55,15 @@ open_session caller state = do
     sessions = state.sessions ++ record { owner = caller; number = opened_by state caller + 1; version = current state; selection = free } ∷ []
   })
 
--- the sessions, of which one asks something else
-abbrev pub with_selection : State → OpenSession → Selection → State
-with_selection state session selection =
-    record { versions = state.versions; callers = state.callers; sessions = map (λ s. if is_session session.owner session.number s then asking selection s else s) state.sessions }
+-- the first session that a test finds, changed
+abbrev pub change_first : (OpenSession → Bool) → (OpenSession → OpenSession) → List OpenSession → List OpenSession
+change_first is change [] = []
+change_first is change (session ∷ sessions) = if is session then change session ∷ sessions else session ∷ change_first is change sessions
+
+-- a caller's session of a number asks something else
+abbrev pub with_selection : ℕ → ℕ → Selection → State → State
+with_selection caller number selection state =
+    record { versions = state.versions; callers = state.callers; sessions = change_first (is_session caller number) (asking selection) state.sessions }
 
 -- a call that is a session's own: what it asks after the call, over the file of its version
 abbrev pub in_session : ℕ → ℕ → (Contents → Selection → Answer Selection) → State → Answer State
@@ -66,7 +71,7 @@ in_session caller number ask state = do
   session ← required (session_of state caller number) NoSession
   file ← required (file_of state session.version) NoSession
   selection ← ask file session.selection
-  Ok (with_selection state session selection)
+  Ok (with_selection caller number selection state)
 
 -- close: the session ends
 abbrev pub close : ℕ → ℕ → State → Answer State

@@ -1,4 +1,3 @@
 pub mod Answers
 pub mod BodyText
 pub mod Reading
-pub mod Took

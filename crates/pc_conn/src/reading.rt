@@ -1,6 +1,6 @@
 //! Reading the text that follows a publish.
 
-ghost use Rattle.std.specs.Prelude.{◌≡◌, ℕ, ◌≤◌, ◌<◌, true, false, List, length, IsTrue, OnOk, Ok, Err};
+ghost use Rattle.std.specs.Prelude.{◌≡◌, ℕ, ◌≤◌, ◌<◌, true, false, List, [], length, IsTrue, OnOk, Ok, Err};
 ghost use Rattle.std.specs.Io.KnownBytes.{IsAtEnd};
 ghost use Rattle.pc_base.specs.Rose.{Rose};
 ghost use Rattle.pc_io.specs.declared.line_fault.LineFault.TheVariants.{ReadFault};
@@ -23,20 +23,23 @@ pub fn read_body<S: Source>(
     source: &mut S,
     count: u64,
 ) -> Result<Body, BodyFault>
-    requires { IsTrue lines.old.ended → IsAtEnd (S.rest source.old) }
+    requires at_end { IsTrue lines.old.ended → IsAtEnd (S.rest source.old) }
+    requires none_kept { IsTrue lines.old.ended → lines.old.kept ≡ [] }
     requires sound { lines.old.fault ≡ None }
     ensures read { ReadsBody count result
         (record { cutter = lines.old; rest = S.rest source.old })
         (record { cutter = lines.new; rest = S.rest source.new }) }
     ensures failed { result ≡ Err (Line ReadFault) → Rose (S.read_faults source.old) (S.read_faults source.new) }
     ensures at_end { IsTrue lines.new.ended → IsAtEnd (S.rest source.new) }
+    ensures none_kept { OnOk result (IsTrue lines.new.ended → lines.new.kept ≡ []) }
     ensures going { OnOk result (lines.new.fault ≡ None) }
     ensures within { lines.old.given ≤ lines.old.total_limit → lines.new.given ≤ lines.new.total_limit }
     ensures counted { S.read_faults source.old ≤ S.read_faults source.new }
     ensures aside { S.read_aside source.new ≡ S.read_aside source.old }
 {
     let mut text = Text::new(alloc);
-    for _ in 0..count {
+    let mut taken = 0;
+    while taken < count {
         if lines.has_ended() {
             return Ok(Body::Cut);
         }
@@ -45,6 +48,7 @@ pub fn read_body<S: Source>(
         };
         text.extend_from_slice(line.as_slice())?;
         text.push(b'\n')?;
+        taken += 1;
     }
     Ok(body_of(alloc, text.as_slice())?)
 }

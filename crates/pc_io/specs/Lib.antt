@@ -7,3 +7,4 @@ pub mod Memory
 pub mod NextLine
 pub mod Reached
 pub mod Told
+pub mod Took

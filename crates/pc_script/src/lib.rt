@@ -1,0 +1,7 @@
+//! Scripts: the calls of callers as lines of one text, each line answered before the next is read. What is written is
+//! the text that the definition gives for the bytes that were read, and every end of a script says how far it came.
+#![tactic(auto)]
+
+mod script_end;
+
+pub use script_end::ScriptEnd;
