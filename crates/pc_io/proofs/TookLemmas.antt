@@ -12,7 +12,7 @@ use Rattle.pc_io.specs.NextLine.{answer_to, is_outside_fault, taken}
 use Rattle.pc_io.specs.Took.{Moment, coming, MayCome, Took, Stopped}
 use Rattle.pc_base.specs.Lines.{HasNoFeed, is_feed, lines}
 use Rattle.pc_base.proofs.LineCuts.{lines-feed_after, lines-last, lines-nil}
-use Rattle.pc_io.proofs.LimitSteps.{answer-breaks, broken-step}
+use Rattle.pc_io.proofs.LimitSteps.{broken-step}
 use Rattle.pc_io.proofs.Pieces.{prepend_known-append}
 
 prepend_none : (told : Option (List ℕ)) → told ≡ prepend_known [] told
@@ -89,11 +89,11 @@ took_both xs ys a b before mid after going first next =
       total_limit = next.total_limit ∙ first.total_limit;
     }
 
--- the bytes that call for a fault break its limit
-breaks : (line_limit left : ℕ) (told : Option (List ℕ)) (fault : LineFault) → IfSome told (λ b. Err fault ≡ answer_to line_limit left b) → IfSome told (λ b. broken_limit line_limit left b ≡ Some fault)
-breaks line_limit left None fault calls = tt
-breaks line_limit left (Some b) fault calls = answer-breaks line_limit left b fault calls
+turned : (line_limit left : ℕ) (told : Option (List ℕ)) (fault : LineFault) → IfSome told (λ b. Err fault ≡ answer_to line_limit left b) → IfSome told (λ b. answer_to line_limit left b ≡ Err fault)
+turned line_limit left None fault calls = tt
+turned line_limit left (Some b) fault calls = sym calls
 
+-- the next line couldn't be cut
 pub stopped_at : (fault : LineFault) (l m : Cutter) (rest mid : Option (List ℕ))
     → l.ended ≡ false
     → (is_outside_fault fault ≡ false → IfSome (stream l rest) (λ b. Err fault ≡ answer_to l.line_limit (left_to_give l) b))
@@ -103,6 +103,6 @@ pub stopped_at : (fault : LineFault) (l m : Cutter) (rest mid : Option (List ℕ
 stopped_at fault l m rest mid going exact read kept = record {
   going = going;
   same = read ∙ sym (prepend_none (stream m mid));
-  broken = λ inside. breaks l.line_limit (left_to_give l) (stream l rest) fault (exact inside);
+  breaks = λ inside. turned l.line_limit (left_to_give l) (stream l rest) fault (exact inside);
   unread = kept;
 }

@@ -1,6 +1,7 @@
 pub mod Aside
 pub mod Calls
 pub mod Cutter
+pub mod Ends
 pub mod Held
 pub mod Limits
 pub mod Memory

@@ -6,7 +6,7 @@ use Rattle.pc_io.specs.declared.line_fault.LineFault.{LineFault}
 use Rattle.pc_io.specs.declared.line_fault.LineFault.TheVariants.{ReadFault}
 use Rattle.pc_io.specs.Cutter.{Cutter, stream, left_to_give}
 use Rattle.pc_io.specs.Limits.{broken_limit}
-use Rattle.pc_io.specs.NextLine.{is_outside_fault}
+use Rattle.pc_io.specs.NextLine.{answer_to, is_outside_fault}
 
 -- what cuts, and the rest of its source, where that is told
 pub record Moment : Type 0 where
@@ -33,9 +33,9 @@ pub record Took (taken : List (List ℕ)) (text : List ℕ) (before after : Mome
   pub line_limit : after.cutter.line_limit ≡ before.cutter.line_limit
   pub total_limit : after.cutter.total_limit ≡ before.cutter.total_limit
 
--- The next line can't be cut, and nothing is taken. What comes breaks a limit, or a read failed, and then no line feed is kept.
+-- The next line can't be cut, and nothing is taken. The first line of what comes breaks a limit, or a read failed, and then no line feed is kept.
 pub record Stopped (fault : LineFault) (before after : Moment) : Type 0 where
   pub going : before.cutter.ended ≡ false
   pub same : coming before ≡ coming after
-  pub broken : is_outside_fault fault ≡ false → IfSome (coming before) (λ b. broken_limit before.cutter.line_limit (left_to_give before.cutter) b ≡ Some fault)
+  pub breaks : is_outside_fault fault ≡ false → IfSome (coming before) (λ b. answer_to before.cutter.line_limit (left_to_give before.cutter) b ≡ Err fault)
   pub unread : fault ≡ ReadFault → HasNoFeed after.cutter.kept

@@ -43,15 +43,6 @@ pub data Script : Type 0 where
 abbrev pub beginning : Script
 beginning = commanded empty
 
--- an item is answered, and a publish waits for its text
-abbrev pub heard_text : State → Heard → List ℕ
-heard_text state (item said) = item_text state said
-heard_text state (publish head) = []
-
-abbrev pub heard_after : State → Heard → Script
-heard_after state (item said) = commanded (item_after state said)
-heard_after state (publish head) = publishing state head []
-
 -- the lines of a publish's text are all there
 abbrev pub is_whole : Head → List (List ℕ) → Bool
 is_whole head lines = nat_le head.lines (length lines)
@@ -65,6 +56,15 @@ body_text state head lines = if is_whole head lines then item_text state (said_w
 
 abbrev pub body_after : State → Head → List (List ℕ) → Script
 body_after state head lines = if is_whole head lines then commanded (item_after state (said_with head lines)) else publishing state head lines
+
+-- an item is answered, and a publish waits for its text
+abbrev pub heard_text : State → Heard → List ℕ
+heard_text state (item said) = item_text state said
+heard_text state (publish head) = body_text state head []
+
+abbrev pub heard_after : State → Heard → Script
+heard_after state (item said) = commanded (item_after state said)
+heard_after state (publish head) = body_after state head []
 
 -- what a line is answered
 abbrev pub line_text : Script → List ℕ → List ℕ

@@ -3,7 +3,8 @@
 ghost use Rattle.std.specs.Prelude.{◌≡◌, ◌≤◌, ◌⊎◌, ◌<◌, ℕ, IfSome, IsSome, false, map, true};
 ghost use Rattle.std.specs.Io.KnownBytes.{append_known};
 ghost use Rattle.pc_base.specs.Rose.{Rose};
-ghost use Rattle.pc_top.specs.ListOutcome.{Ends, Answers, StopsShort, broken, status_by_text};
+ghost use Rattle.pc_io.specs.Ends.{Ends};
+ghost use Rattle.pc_top.specs.ListOutcome.{Answers, StopsShort, broken, status_by_text};
 ghost use Rattle.pc_top.specs.declared.status.Status.{Status};
 ghost use Rattle.pc_top.specs.Status.{code};
 ghost use Rattle.pc_top.specs.Words.{is_list};
