@@ -1,7 +1,5 @@
 -- What a line of a script says. It is `CALLER COMMAND`.
 use Rattle.std.specs.Prelude.{ℕ, ◌+◌, ◌&&◌, ◌||◌, not, nat_le, Bool, true, false, if◌then◌else◌, List, [], ◌∷◌, length, Option, Some, None, option_map, unwrap_or, Result, Ok, Err}
-use Rattle.pc_rules.specs.declared.kind.Kind.{Kind}
-use Rattle.pc_file.specs.Limits.{Contents}
 use Rattle.pc_calls.specs.declared.bad_column.BadColumn.{BadColumn}
 use Rattle.pc_calls.specs.declared.call.Call.{Call}
 use Rattle.pc_calls.specs.declared.call.Call.TheVariants as call
@@ -15,26 +13,12 @@ use Rattle.pc_calls.specs.LineWords.{Word, words_from, end_of}
 use Rattle.pc_calls.specs.State.{State, numbered}
 use Rattle.pc_conn.specs.declared.body.Body.{Body}
 use Rattle.pc_conn.specs.declared.body.Body.TheVariants.{File, Fault, NotBuilt, Cut}
-
--- a publish whose text is still to come: who publishes, over which version, on how many lines, and the length of its line
-pub record Head : Type 0 where
-  pub caller : ℕ
-  pub base : ℕ
-  pub lines : ℕ
-  pub line_length : ℕ
-
--- A call, the column of the first wrong word, or a text with a fault or too many words, each with its caller; the caller
--- is 0 where the line names none that may speak.
-pub data Item : Type 0 where
-  asks : ℕ → Call → Item
-  bad : ℕ → ℕ → Item
-  fault : ℕ → ℕ → Kind → Item
-  not_built : ℕ → ℕ → Item
-
--- what a line says, or that a text is to follow it
-pub data Heard : Type 0 where
-  item : Item → Heard
-  publish : Head → Heard
+use Rattle.pc_script.specs.declared.item.Announced.{Announced}
+use Rattle.pc_script.specs.declared.item.Heard.{Heard}
+use Rattle.pc_script.specs.declared.item.Heard.TheVariants.{Item, Publish}
+use Rattle.pc_script.specs.declared.item.Said.{Said}
+use Rattle.pc_script.specs.declared.item.Said.TheVariants.{Asks, Bad}
+use Rattle.pc_script.specs.declared.item.Said.TheVariants as said
 
 -- so many callers may speak
 abbrev pub most_callers : ℕ
@@ -67,22 +51,22 @@ is_later command = false
 
 -- what the words after CALLER say
 abbrev pub heard_call : ℕ → ℕ → Result LineCall BadColumn → Heard
-heard_call caller line_length (Ok (Whole call)) = item (asks caller call)
-heard_call caller line_length (Ok (PublishHead base lines)) = publish (record { caller = caller; base = base; lines = lines; line_length = line_length })
-heard_call caller line_length (Err bad_column) = item (bad caller bad_column.column)
+heard_call caller line_length (Ok (Whole call)) = Item (Asks caller call)
+heard_call caller line_length (Ok (PublishHead base lines)) = Publish (record { caller = caller; base = base; lines = lines; end_column = line_length + 1 })
+heard_call caller line_length (Err bad_column) = Item (Bad caller bad_column.column)
 
 -- the word of a command, where the script doesn't know it yet, is the first wrong word
 abbrev pub heard_command : ℕ → List ℕ → ℕ → List Word → Heard
 heard_command caller line from [] = heard_call caller (length line) (line_call line from)
 heard_command caller line from (word ∷ words) =
-    if is_later (command_of word.bytes) then item (bad caller (word.place + 1)) else heard_call caller (length line) (line_call line from)
+    if is_later (command_of word.bytes) then Item (Bad caller (word.place + 1)) else heard_call caller (length line) (line_call line from)
 
 abbrev pub heard_after : Option ℕ → List ℕ → Word → Heard
-heard_after None line word = item (bad 0 (word.place + 1))
+heard_after None line word = Item (Bad 0 (word.place + 1))
 heard_after (Some caller) line word = heard_command caller line (end_of word) (words_from line (end_of word))
 
 abbrev pub heard_words : State → List ℕ → List Word → Heard
-heard_words state line [] = item (bad 0 (length line + 1))
+heard_words state line [] = Item (Bad 0 (length line + 1))
 heard_words state line (word ∷ words) = heard_after (caller_of state word.bytes) line word
 
 -- what a line says to callers in this state
@@ -90,8 +74,8 @@ unfoldable pub heard : State → List ℕ → Heard
 heard state line = heard_words state line (words_from line 0)
 
 -- what a publish says with its text
-abbrev pub published : Head → Body → Item
-published head (File file) = asks head.caller (call.Publish head.base file)
-published head (Fault line kind) = fault head.caller line kind
-published head (NotBuilt line) = not_built head.caller line
-published head Cut = bad head.caller (head.line_length + 1)
+abbrev pub published : Announced → Body → Said
+published head (File file) = Asks head.caller (call.Publish head.base file)
+published head (Fault line kind) = said.Fault head.caller line kind
+published head (NotBuilt line) = said.NotBuilt head.caller line
+published head Cut = Bad head.caller head.end_column

@@ -1,2 +1,5 @@
+pub mod Ends
 pub mod Heard
 pub mod Script
+pub mod ScriptOutcome
+pub mod Turns

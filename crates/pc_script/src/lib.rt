@@ -2,6 +2,8 @@
 //! the text that the definition gives for the bytes that were read, and every end of a script says how far it came.
 #![tactic(auto)]
 
+mod item;
 mod script_end;
+mod turn;
 
 pub use script_end::ScriptEnd;
