@@ -2,6 +2,7 @@
 use Rattle.std.proofs.Common.{◌≡◌, ℕ, ◌+◌, ◌<◌, ◌≤◌, ◌||◌, Bool, true, false, List, [], ◌∷◌, ◌++◌, length, Option, Some, None, Ok, Err, IsTrue, IfSome, refl, sym, ap, ◌∙◌, arith, length-append, append_assoc}
 use Rattle.std.specs.List.{list_any, flat_map}
 use Rattle.std.specs.Io.KnownBytes.{IsAtEnd, prepend_known}
+use Rattle.std.proofs.lemmas.Bool.{both_ways, false_from_ne_true}
 use Rattle.std.proofs.lemmas.List.{append-nil}
 use Rattle.pc_base.specs.Lines.{HasNoFeed, is_feed}
 use Rattle.pc_io.specs.declared.line_fault.LineFault.{LineFault}
@@ -34,6 +35,8 @@ pub record BodySoFar (count n : ℕ) (text : List ℕ) (first : Cutter) (rest_th
   pub at_end : IsTrue l.ended → IsAtEnd rest
   pub none_kept : IsTrue l.ended → l.kept ≡ []
   pub within : first.given ≤ first.total_limit → l.given ≤ l.total_limit
+  pub stays_ended : IsTrue first.ended → IsTrue l.ended
+  pub calm : IsTrue first.ended → l.given ≡ first.given
   pub counted : faults_then ≤ faults
   pub same_aside : aside ≡ aside_then
 
@@ -49,6 +52,8 @@ body_begins count l rest faults aside sound at_end none_kept = record {
   at_end = at_end;
   none_kept = none_kept;
   within = λ h. h;
+  stays_ended = λ h. h;
+  calm = λ h. refl;
   counted = omega arith;
   same_aside = refl;
 }
@@ -84,6 +89,8 @@ body_goes_on count n text line first rest_then l rest m mid faults_then faults c
   at_end = at_end;
   none_kept = last;
   within = λ h. within;
+  stays_ended = λ h. absurd (both_ways l.ended going (before.stays_ended h));
+  calm = λ h. absurd (both_ways l.ended going (before.stays_ended h));
   counted = omega (arith, count_, before.counted);
   same_aside = same ∙ before.same_aside;
 }
@@ -128,6 +135,7 @@ body_stopped count n text first rest_then l rest m mid faults_then faults aside_
   bytes = so_far.bytes;
   at = record { cutter = l; rest = rest };
   took = so_far.took;
+  going = false_from_ne_true first.ended (λ h. absurd (both_ways l.ended going (so_far.stays_ended h)));
   fewer = omega (arith, so_far.size, room);
   stopped = stopped_at fault l m rest mid going exact read kept;
 }

@@ -1,6 +1,7 @@
 -- What the text of a publish gives.
-use Rattle.std.specs.Prelude.{ℕ, Bool, if◌then◌else◌, List, Option, Some, None, unwrap_or}
+use Rattle.std.specs.Prelude.{ℕ, ◌≤◌, ⊤, Bool, if◌then◌else◌, List, Option, Some, None, unwrap_or}
 use Rattle.pc_file.specs.Limits.{Contents}
+use Rattle.pc_file.specs.Products.{words_of}
 use Rattle.pc_rules.specs.declared.kind.Kind.{Kind}
 use Rattle.pc_text.specs.Crowded.{crowded_line, is_crowded}
 use Rattle.pc_text.specs.FirstFault.{first_fault, given_by}
@@ -19,3 +20,8 @@ body_by None sound = sound
 -- the file that a text spells, or its first fault
 unfoldable pub body_of : List ℕ → Body
 body_of text = body_by (first_fault text) (sound_body (is_crowded (given_by text)) (crowded_line text) (contents_given (given_by text)))
+
+-- a file has few enough words for the plain list
+abbrev pub HasFewWords : Body → Type 0
+HasFewWords (File file) = words_of file ≤ 65536
+HasFewWords body = ⊤

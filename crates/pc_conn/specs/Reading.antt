@@ -1,5 +1,5 @@
 -- What reading the text of a publish takes off a source, and what it gives.
-use Rattle.std.specs.Prelude.{◌≡◌, ℕ, ◌<◌, Bool, true, List, length, Result, Ok, Err}
+use Rattle.std.specs.Prelude.{◌≡◌, ℕ, ◌<◌, Bool, true, false, List, length, Result, Ok, Err}
 use Rattle.pc_io.specs.declared.line_fault.LineFault.{LineFault}
 use Rattle.pc_io.specs.Took.{Moment, Took, Stopped}
 use Rattle.pc_file.specs.PrintedForm.{text_of_lines}
@@ -31,6 +31,7 @@ pub record IsStopped (count : ℕ) (fault : LineFault) (before after : Moment) :
   pub bytes : List ℕ
   pub at : Moment
   pub took : Took taken bytes before at
+  pub going : before.cutter.ended ≡ false
   pub fewer : length taken < count
   pub stopped : Stopped fault at after
 

@@ -1,11 +1,12 @@
 //! Reading the text that follows a publish.
 
-ghost use Rattle.std.specs.Prelude.{◌≡◌, ℕ, ◌≤◌, ◌<◌, true, false, List, [], length, IsTrue, OnOk, Ok, Err};
+ghost use Rattle.std.specs.Prelude.{◌≡◌, ℕ, ◌≤◌, ◌<◌, true, false, List, [], length, IsTrue, IfOk, OnOk, Ok, Err};
 ghost use Rattle.std.specs.Io.KnownBytes.{IsAtEnd};
 ghost use Rattle.pc_base.specs.Rose.{Rose};
 ghost use Rattle.pc_io.specs.declared.line_fault.LineFault.TheVariants.{ReadFault};
 ghost use Rattle.pc_conn.specs.declared.body.Body.TheVariants.{Cut};
 ghost use Rattle.pc_conn.specs.declared.body_fault.BodyFault.TheVariants.{Line};
+ghost use Rattle.pc_conn.specs.BodyText.{HasFewWords};
 ghost use Rattle.pc_conn.specs.Reading.{ReadsBody};
 
 use crate::body::Body;
@@ -29,11 +30,15 @@ pub fn read_body<S: Source>(
     ensures read { ReadsBody count result
         (record { cutter = lines.old; rest = S.rest source.old })
         (record { cutter = lines.new; rest = S.rest source.new }) }
+    ensures few { IfOk result HasFewWords }
     ensures failed { result ≡ Err (Line ReadFault) → Rose (S.read_faults source.old) (S.read_faults source.new) }
     ensures at_end { IsTrue lines.new.ended → IsAtEnd (S.rest source.new) }
     ensures none_kept { OnOk result (IsTrue lines.new.ended → lines.new.kept ≡ []) }
     ensures going { OnOk result (lines.new.fault ≡ None) }
     ensures within { lines.old.given ≤ lines.old.total_limit → lines.new.given ≤ lines.new.total_limit }
+    // Where the input has ended nothing is taken.
+    ensures stays_ended { IsTrue lines.old.ended → IsTrue lines.new.ended }
+    ensures calm { IsTrue lines.old.ended → lines.new.given ≡ lines.old.given }
     ensures counted { S.read_faults source.old ≤ S.read_faults source.new }
     ensures aside { S.read_aside source.new ≡ S.read_aside source.old }
 {

@@ -70,23 +70,46 @@ took_line line l m rest mid read given fits rises within limits =
       total_limit = limits.1;
     }
 
--- first some lines, then others
-pub took_both : (xs ys : List (List ℕ)) (a b : List ℕ) (before mid after : Moment) → mid.cutter.ended ≡ false → Took xs a before mid → Took ys b mid after → Took (xs ++ ys) (a ++ b) before after
-took_both xs ys a b before mid after going first next =
-    let may : (later : List ℕ) → MayCome mid later = λ later ended. absurd (both_ways mid.cutter.ended going ended) in
+no_bytes : (b : List ℕ) → length b ≡ 0 → b ≡ []
+no_bytes [] none = refl
+no_bytes (x ∷ xs) none = absurd (omega arith)
+
+-- first some lines, then others, unless the source has given its end before
+pub took_on : (xs ys : List (List ℕ)) (a b : List ℕ) (before mid after : Moment) → (IsTrue mid.cutter.ended → IsTrue after.cutter.ended) → (IsTrue mid.cutter.ended → after.cutter.given ≡ mid.cutter.given) → Took xs a before mid → Took ys b mid after → Took (xs ++ ys) (a ++ b) before after
+took_on xs ys a b before mid after stays calm first next =
+    let none : IsTrue mid.cutter.ended → b ≡ [] = λ ended. let same : after.cutter.given ≡ mid.cutter.given = calm ended in no_bytes b (omega (arith, same, next.given)) in
+    let may : (later : List ℕ) → MayCome after later → MayCome mid (b ++ later) = λ later m ended. ap (λ (x : List ℕ). x ++ later) (none ended) ∙ m (stays ended) in
     record {
       read = first.read ∙ ap (prepend_known a) next.read ∙ prepend_known-append (coming after) a b;
       given = omega (arith, first.given, next.given, length-append a b);
       rising = omega (arith, first.rising, next.rising, length-append a b, length-append xs ys);
-      cut = λ later m. ap lines (append_assoc a b later) ∙ first.cut (b ++ later) (may (b ++ later)) ∙ ap (λ (ls : List (List ℕ)). xs ++ ls) (next.cut later m) ∙ sym (append_assoc xs ys (lines later));
+      cut = λ later m. ap lines (append_assoc a b later) ∙ first.cut (b ++ later) (may later m) ∙ ap (λ (ls : List (List ℕ)). xs ++ ls) (next.cut later m) ∙ sym (append_assoc xs ys (lines later));
       judged = λ later m.
           ap (broken_limit before.cutter.line_limit (left_to_give before.cutter)) (append_assoc a b later)
-          ∙ first.judged (b ++ later) (may (b ++ later))
+          ∙ first.judged (b ++ later) (may later m)
           ∙ ap (λ (n : ℕ). broken_limit n (left_to_give mid.cutter) (b ++ later)) (sym first.line_limit)
           ∙ next.judged later m
           ∙ ap (λ (n : ℕ). broken_limit n (left_to_give after.cutter) later) first.line_limit;
       line_limit = next.line_limit ∙ first.line_limit;
       total_limit = next.total_limit ∙ first.total_limit;
+    }
+
+pub took_both : (xs ys : List (List ℕ)) (a b : List ℕ) (before mid after : Moment) → mid.cutter.ended ≡ false → Took xs a before mid → Took ys b mid after → Took (xs ++ ys) (a ++ b) before after
+took_both xs ys a b before mid after going = took_on xs ys a b before mid after (λ ended. absurd (both_ways mid.cutter.ended going ended)) (λ ended. absurd (both_ways mid.cutter.ended going ended))
+
+-- no line was left
+pub took_none : (l m : Cutter) (rest mid : Option (List ℕ)) → stream l rest ≡ prepend_known [] (stream m mid) → m.given ≡ l.given + 0 → (m.line_limit ≡ l.line_limit) × (m.total_limit ≡ l.total_limit)
+    → Took [] [] (record { cutter = l; rest = rest }) (record { cutter = m; rest = mid })
+took_none l m rest mid read given limits =
+    let left : left_to_give l ≡ left_to_give m = omega (arith, given, limits.1) in
+    record {
+      read = read;
+      given = given;
+      rising = omega arith;
+      cut = λ later may. refl;
+      judged = λ later may. ap (λ (n : ℕ). broken_limit l.line_limit n later) left;
+      line_limit = limits.0;
+      total_limit = limits.1;
     }
 
 turned : (line_limit left : ℕ) (told : Option (List ℕ)) (fault : LineFault) → IfSome told (λ b. Err fault ≡ answer_to line_limit left b) → IfSome told (λ b. answer_to line_limit left b ≡ Err fault)

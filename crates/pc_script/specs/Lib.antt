@@ -1,5 +1,6 @@
 pub mod Ends
 pub mod Heard
+pub mod Made
 pub mod Script
 pub mod ScriptOutcome
 pub mod Turns

@@ -1,5 +1,5 @@
--- What answering the next line of a script does, a publish with the lines of its text being one turn.
-use Rattle.std.specs.Prelude.{◌≡◌, ℕ, ◌≤◌, ◌<◌, Bool, true, false, List, [], ◌∷◌, ◌++◌, length, Result, Ok, Err}
+-- One turn of a script: the next line is heard, with the lines of a text where it announces one, and answered.
+use Rattle.std.specs.Prelude.{◌≡◌, ℕ, ◌≤◌, ◌<◌, Bool, true, false, List, [], ◌∷◌, ◌++◌, length, Option, Some, None, Result, Ok, Err}
 use Rattle.std.specs.Io.KnownBytes.{append_known}
 use Rattle.pc_base.specs.Lines.{lines}
 use Rattle.pc_base.specs.Rose.{Rose}
@@ -10,60 +10,79 @@ use Rattle.pc_io.specs.NextLine.{is_outside_fault}
 use Rattle.pc_io.specs.Took.{Moment, MayCome, Took, Stopped}
 use Rattle.pc_io.specs.Told.{GrewByPart}
 use Rattle.pc_calls.specs.State.{State}
+use Rattle.pc_conn.specs.declared.body.Body.{Body}
+use Rattle.pc_conn.specs.declared.body.Body.TheVariants.{File, Fault, NotBuilt, Cut}
+use Rattle.pc_script.specs.declared.item.Said.{Said}
 use Rattle.pc_script.specs.declared.script_end.ScriptEnd.{ScriptEnd}
 use Rattle.pc_script.specs.declared.script_end.ScriptEnd.TheVariants.{Ended, ReadFault, WriteFault, TooLong, NoMemory}
+use Rattle.pc_script.specs.declared.turn.Next.{Next}
 use Rattle.pc_script.specs.declared.turn.Turn.{Turn}
-use Rattle.pc_script.specs.declared.turn.Turn.TheVariants.{Answering, Over}
-use Rattle.pc_script.specs.Script.{Script, commanded, answers, after_lines, last_answers}
+use Rattle.pc_script.specs.declared.turn.Turn.TheVariants.{Going, Last}
+use Rattle.pc_script.specs.Script.{Script, commanded, answers, after_lines, last_answers, item_text, item_after}
 
--- lines were taken and answered, and a command comes next
-pub record Answered (state later : State) (before after : Moment) (old new : Ends) : Type 0 where
+-- lines were taken that say this, and a command comes next
+pub record SaysNext (state : State) (said : Said) (before after : Moment) : Type 0 where
   pub taken : List (List ℕ)
   pub bytes : List ℕ
-  pub some : 1 ≤ length taken
   pub took : Took taken bytes before after
-  pub then : after_lines (commanded state) taken ≡ commanded later
-  pub written : new.written ≡ append_known old.written (answers (commanded state) taken)
+  pub some : 1 ≤ length taken
+  pub text : answers (commanded state) taken ≡ item_text state said
+  pub then : after_lines (commanded state) taken ≡ commanded (item_after state said)
 
--- the last lines were taken and answered
-pub record AnsweredLast (state : State) (before after : Moment) (old new : Ends) : Type 0 where
+-- the last lines were taken, which say this where nothing comes after them
+pub record SaysLast (state : State) (said : Said) (before after : Moment) : Type 0 where
   pub taken : List (List ℕ)
   pub bytes : List ℕ
   pub took : Took taken bytes before after
   pub ended : after.cutter.ended ≡ true
-  pub written : new.written ≡ append_known old.written (last_answers (commanded state) taken)
+  pub text : last_answers (commanded state) taken ≡ item_text state said
+
+-- nothing was left to take
+pub record SaysNothing (before after : Moment) : Type 0 where
+  pub took : Took [] [] before after
+  pub ended : after.cutter.ended ≡ true
 
 -- lines were taken that call for no answer yet, and the next line can't be cut
-pub record AnsweredNone (state : State) (fault : LineFault) (before after : Moment) (old new : Ends) : Type 0 where
+pub record HearsNone (state : State) (fault : LineFault) (before after : Moment) : Type 0 where
   pub taken : List (List ℕ)
   pub bytes : List ℕ
   pub at : Moment
   pub took : Took taken bytes before at
   pub stopped : Stopped fault at after
   pub silent : answers (commanded state) taken ≡ []
-  pub unwritten : new.written ≡ old.written
-
--- lines were taken, and a part of their answer was written
-pub record AnsweredPart (state : State) (before after : Moment) (old new : Ends) : Type 0 where
-  pub taken : List (List ℕ)
-  pub bytes : List ℕ
-  pub text : List ℕ
-  pub took : Took taken bytes before after
-  pub part : GrewByPart text old.written new.written
-  pub begins : (later : List ℕ) → MayCome after later → (rest : List ℕ) × (last_answers (commanded state) (taken ++ lines later) ≡ text ++ rest)
 
 -- a limit that the next line breaks
-pub record AnsweredLimit (state : State) (before after : Moment) (old new : Ends) : Type 0 where
+pub record HearsLimit (state : State) (before after : Moment) : Type 0 where
   pub fault : LineFault
   pub inside : is_outside_fault fault ≡ false
-  pub none : AnsweredNone state fault before after old new
+  pub none : HearsNone state fault before after
 
--- what a turn did, by what it tells
-abbrev pub Does : State → State → Result Turn ScriptEnd → Moment → Moment → Ends → Ends → Type 0
-Does state later (Ok Answering) before after old new = Answered state later before after old new
-Does state later (Ok Over) before after old new = AnsweredLast state before after old new
-Does state later (Err Ended) before after old new = ⊥
-Does state later (Err ReadFault) before after old new = Rose old.read_faults new.read_faults × AnsweredNone state line.ReadFault before after old new
-Does state later (Err WriteFault) before after old new = Rose old.write_faults new.write_faults × AnsweredPart state before after old new
-Does state later (Err TooLong) before after old new = AnsweredLimit state before after old new
-Does state later (Err NoMemory) before after old new = new.written ≡ old.written
+abbrev pub HearsTurn : State → Said → Turn → Moment → Moment → Type 0
+HearsTurn state said Going before after = SaysNext state said before after
+HearsTurn state said Last before after = SaysLast state said before after
+
+-- what was heard
+abbrev pub Hears : State → Result (Option Next) ScriptEnd → Moment → Moment → Type 0
+Hears state (Ok (Some next)) before after = HearsTurn state next.said next.turn before after
+Hears state (Ok None) before after = SaysNothing before after
+Hears state (Err Ended) before after = ⊥
+Hears state (Err ReadFault) before after = HearsNone state line.ReadFault before after
+Hears state (Err WriteFault) before after = ⊥
+Hears state (Err TooLong) before after = HearsLimit state before after
+Hears state (Err NoMemory) before after = Unit {0}
+
+-- nothing comes after a text that the end cuts
+abbrev pub turn_after : Body → Turn
+turn_after (File file) = Going
+turn_after (Fault line kind) = Going
+turn_after (NotBuilt line) = Going
+turn_after Cut = Last
+
+-- the whole text was written, or a part of it, or nothing
+abbrev pub Writes : List ℕ → Result (Unit {0}) ScriptEnd → Ends → Ends → Type 0
+Writes text (Ok done) old new = new.written ≡ append_known old.written text
+Writes text (Err Ended) old new = ⊥
+Writes text (Err ReadFault) old new = ⊥
+Writes text (Err WriteFault) old new = Rose old.write_faults new.write_faults × GrewByPart text old.written new.written
+Writes text (Err TooLong) old new = ⊥
+Writes text (Err NoMemory) old new = new.written ≡ old.written

@@ -36,11 +36,14 @@ pub enum Heard {
 
 impl Announced {
     ghost use Rattle.std.specs.Prelude.{◌≡◌};
+    ghost use Rattle.pc_conn.specs.BodyText.{HasFewWords};
     ghost use Rattle.pc_script.specs.Heard.{published};
+    ghost use Rattle.pc_script.specs.Made.{IsMade};
 
     /// What the publish says with its text.
     pub fn with(self, body: Body) -> Said
-        ensures { result ≡ published self body }
+        ensures said { result ≡ published self body }
+        ensures made { HasFewWords body → IsMade result }
     {
         let caller = self.caller;
         match body {

@@ -2,8 +2,10 @@
 //! the text that the definition gives for the bytes that were read, and every end of a script says how far it came.
 #![tactic(auto)]
 
+mod hearing;
 mod item;
 mod script_end;
+mod shop;
 mod turn;
 
 pub use script_end::ScriptEnd;

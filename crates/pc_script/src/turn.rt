@@ -1,10 +1,17 @@
-//! Where a script is after a turn.
+//! The turns of a script.
 
-/// What a turn of a script leaves to do.
+use crate::item::Said;
+
+/// Whether anything may come after what was said.
 #[derive(Clone, Copy, Debug, PartialEq, Eq)]
 pub enum Turn {
-    /// The next lines were answered, and others may come.
-    Answering,
-    /// The last lines were answered.
-    Over,
+    Going,
+    Last,
+}
+
+/// What is said next, and whether anything may come after it.
+#[derive(Debug, Drop)]
+pub struct Next {
+    pub said: Said,
+    pub turn: Turn,
 }

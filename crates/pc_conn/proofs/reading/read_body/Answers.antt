@@ -26,4 +26,4 @@ loop-taken-preserved g c =
 
 pub returns-clause-read : goal.returns-clause-read
 returns-clause-read g c =
-    body_read _ _ _ _ _ _ _ _ _ _ _ _ c.loop-taken.invariant (grind (arith, nat_tests, c.loop-taken-test.false)) (c.in_ok-body_of.ensures ∙ ap body_of c.as_slice-2.ensures)
+    body_read _ _ _ _ _ _ _ _ _ _ _ _ c.loop-taken.invariant (grind (arith, nat_tests, c.loop-taken-test.false)) (c.in_ok-body_of.ensures.exact ∙ ap body_of c.as_slice-2.ensures)
