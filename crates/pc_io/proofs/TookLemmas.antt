@@ -15,7 +15,7 @@ use Rattle.pc_base.proofs.LineCuts.{lines-feed_after, lines-last, lines-nil}
 use Rattle.pc_io.proofs.LimitSteps.{broken-step}
 use Rattle.pc_io.proofs.Pieces.{prepend_known-append}
 
-prepend_none : (told : Option (List ℕ)) → told ≡ prepend_known [] told
+pub prepend_none : (told : Option (List ℕ)) → told ≡ prepend_known [] told
 prepend_none None = refl
 prepend_none (Some xs) = refl
 

@@ -1,2 +1,4 @@
+pub mod AnswerLemmas
 pub mod Bodies
 pub mod HeardNext
+pub mod ScriptRun

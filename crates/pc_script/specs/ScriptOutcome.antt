@@ -1,5 +1,5 @@
 -- What a script leaves, by its end.
-use Rattle.std.specs.Prelude.{◌≡◌, ℕ, ◌-◌, Bool, true, false, List, [], ◌∷◌, ◌++◌, length, take, Option, Some, None, Ok, Err, IfSome}
+use Rattle.std.specs.Prelude.{◌≡◌, ℕ, ◌-◌, Bool, true, false, List, [], ◌∷◌, ◌++◌, length, take, Option, Some, None, Result, Ok, Err, IfSome}
 use Rattle.std.specs.Io.KnownBytes.{IsAtEnd, append_known, prepend_known}
 use Rattle.pc_base.specs.Lines.{lines, HasNoFeed}
 use Rattle.pc_base.specs.Rose.{Rose}
@@ -58,3 +58,12 @@ Leaves ReadFault before after = Rose before.read_faults after.read_faults × Ans
 Leaves WriteFault before after = Rose before.write_faults after.write_faults × IfSome before.rest (λ all. GrewByPart (script_text all) before.written after.written)
 Leaves TooLong before after = IfSome before.rest (λ all. AnswersBefore all before after)
 Leaves NoMemory before after = IfSome before.rest (λ all. AnswersSome all before after)
+
+-- the end is told, or the input has ended
+abbrev pub LeavesBy : Result (Unit {0}) ScriptEnd → Ends → Ends → Type 0
+LeavesBy (Ok done) before after = AnswersAll before after
+LeavesBy (Err Ended) before after = ⊥
+LeavesBy (Err ReadFault) before after = Leaves ReadFault before after
+LeavesBy (Err WriteFault) before after = Leaves WriteFault before after
+LeavesBy (Err TooLong) before after = Leaves TooLong before after
+LeavesBy (Err NoMemory) before after = Leaves NoMemory before after

@@ -5,7 +5,6 @@ use Rattle.pc_base.specs.Lines.{lines}
 use Rattle.pc_base.specs.Rose.{Rose}
 use Rattle.pc_io.specs.declared.line_fault.LineFault.{LineFault}
 use Rattle.pc_io.specs.declared.line_fault.LineFault.TheVariants as line
-use Rattle.pc_io.specs.Ends.{Ends}
 use Rattle.pc_io.specs.NextLine.{is_outside_fault}
 use Rattle.pc_io.specs.Took.{Moment, MayCome, Took, Stopped}
 use Rattle.pc_io.specs.Told.{GrewByPart}
@@ -79,10 +78,10 @@ turn_after (NotBuilt line) = Going
 turn_after Cut = Last
 
 -- the whole text was written, or a part of it, or nothing
-abbrev pub Writes : List ℕ → Result (Unit {0}) ScriptEnd → Ends → Ends → Type 0
-Writes text (Ok done) old new = new.written ≡ append_known old.written text
-Writes text (Err Ended) old new = ⊥
-Writes text (Err ReadFault) old new = ⊥
-Writes text (Err WriteFault) old new = Rose old.write_faults new.write_faults × GrewByPart text old.written new.written
-Writes text (Err TooLong) old new = ⊥
-Writes text (Err NoMemory) old new = new.written ≡ old.written
+abbrev pub Writes : List ℕ → Result (Unit {0}) ScriptEnd → Option (List ℕ) → Option (List ℕ) → ℕ → ℕ → Type 0
+Writes text (Ok done) old new faults_then faults = new ≡ append_known old text
+Writes text (Err Ended) old new faults_then faults = ⊥
+Writes text (Err ReadFault) old new faults_then faults = ⊥
+Writes text (Err WriteFault) old new faults_then faults = Rose faults_then faults × GrewByPart text old new
+Writes text (Err TooLong) old new faults_then faults = ⊥
+Writes text (Err NoMemory) old new faults_then faults = new ≡ old

@@ -4,8 +4,10 @@
 
 mod hearing;
 mod item;
+mod running;
 mod script_end;
 mod shop;
 mod turn;
 
+pub use running::run_script;
 pub use script_end::ScriptEnd;
