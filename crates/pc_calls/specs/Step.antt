@@ -73,11 +73,16 @@ in_session caller number ask state = do
   selection ← ask file session.selection
   Ok (with_selection caller number selection state)
 
+-- the sessions without the first that a test finds
+abbrev pub drop_first : (OpenSession → Bool) → List OpenSession → List OpenSession
+drop_first is [] = []
+drop_first is (session ∷ sessions) = if is session then sessions else session ∷ drop_first is sessions
+
 -- close: the session ends
 abbrev pub close : ℕ → ℕ → State → Answer State
 close caller number state = do
   session ← required (session_of state caller number) NoSession
-  Ok (record { versions = state.versions; callers = state.callers; sessions = filter (λ s. not (is_session caller number s)) state.sessions })
+  Ok (record { versions = state.versions; callers = state.callers; sessions = drop_first (is_session caller number) state.sessions })
 
 -- publish: the file is the next version, live and current
 abbrev pub publish : ℕ → Contents → State → Answer State

@@ -1,4 +1,5 @@
 pub mod AnswerLemmas
 pub mod Bodies
 pub mod HeardNext
+pub mod Places
 pub mod ScriptRun

@@ -4,3 +4,4 @@ pub mod Made
 pub mod Script
 pub mod ScriptOutcome
 pub mod Turns
+pub mod Visits
