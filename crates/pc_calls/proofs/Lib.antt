@@ -1,1 +1,4 @@
 pub mod LineWordLemmas
+pub mod TableLemmas
+pub mod KindLemmas
+pub mod WordsSaid

@@ -1,6 +1,8 @@
 pub mod Answer
+pub mod CallWords
 pub mod CommandLine
 pub mod CommandReader
+pub mod CommandTable
 pub mod CommandTold
 pub mod Heads
 pub mod History

@@ -1,8 +1,12 @@
 //! Reading command lines.
 
-ghost use Rattle.std.specs.Prelude.{◌≡◌};
+ghost use Rattle.std.specs.Prelude.{◌≡◌, Ok, Some, None, IfOk, MatchResult};
+ghost use Rattle.pc_calls.specs.declared.line_call.LineCall.{LineCall};
+ghost use Rattle.pc_calls.specs.LineWords.{words_from};
 ghost use Rattle.pc_calls.specs.CommandTold.{Reads};
 ghost use Rattle.pc_calls.specs.CommandLine.{arguments, command_line, line_call};
+ghost use Rattle.pc_calls.specs.CommandTable.{bad_column};
+ghost use Rattle.pc_calls.specs.CallWords.{spellings, call_words, IsSayable};
 
 use crate::bad_column::BadColumn;
 use crate::call::Call;
@@ -14,9 +18,22 @@ use pc_base::Line;
 /// What the words of a line say from a byte on, or the column of the first word that is wrong or missing. No words
 /// are left of a line from past its end on.
 pub fn read_call(line: &Line, from: u64) -> Result<LineCall, BadColumn>
+    ensures exact { result ≡ line_call line.now from }
+
+    // A call is read exactly from the words that say it.
+    ensures said { IfOk result (λ call. IsSayable call × (spellings (words_from line.now from) ≡ call_words call)) }
+    ensures only { (call : LineCall) → IsSayable call → spellings (words_from line.now from) ≡ call_words call → result ≡ Ok call }
+
+    // Else the column is that of the first word that is wrong or missing.
+    ensures wrong { MatchResult result (λ call. bad_column line.now from ≡ None) (λ column. bad_column line.now from ≡ Some column) }
+{
+    line_call(line.as_slice(), from)
+}
+
+fn line_call(line: &[u8], from: u64) -> Result<LineCall, BadColumn>
     ensures { result ≡ line_call line.now from }
 {
-    command_line(&mut WordsLeft::new(line.as_slice(), from))
+    command_line(&mut WordsLeft::new(line, from))
 }
 
 #[tactic(auto, unfolding(crate::specs::CommandLine::command_line))]

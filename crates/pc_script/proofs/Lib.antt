@@ -3,3 +3,4 @@ pub mod Bodies
 pub mod HeardNext
 pub mod Places
 pub mod ScriptRun
+pub mod ShopCalls
