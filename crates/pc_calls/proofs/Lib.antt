@@ -2,3 +2,4 @@ pub mod LineWordLemmas
 pub mod TableLemmas
 pub mod KindLemmas
 pub mod WordsSaid
+pub mod Crossing

@@ -10,7 +10,7 @@ use std::test::Fail;
 fn calls_cross_threads() {
     crosses_threads::<SharedFile>();
     crosses_threads::<Call>();
-    crosses_threads::<Head>();
+    crosses_threads::<Entry>();
     crosses_threads::<Reply>();
 }
 
