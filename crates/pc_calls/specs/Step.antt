@@ -117,10 +117,6 @@ abbrev pub state_of : State → Answer State → State
 state_of before (Ok state) = state
 state_of before (Err refusal) = before
 
--- the outcome of a caller's call
-abbrev pub outcome : ℕ → Call → State → Outcome
-outcome caller call state = outcome_of (given caller call state)
-
--- the state after it
+-- the state after a caller's call
 abbrev pub after : ℕ → Call → State → State
 after caller call state = state_of state (given caller call state)
