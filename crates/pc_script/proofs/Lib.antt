@@ -4,3 +4,5 @@ pub mod HeardNext
 pub mod Places
 pub mod ScriptRun
 pub mod ShopCalls
+pub mod ShopKeeps
+pub mod ShopSteps

@@ -10,9 +10,10 @@ use Rattle.pc_calls.specs.declared.outcome.Outcome.TheVariants.{Done, NoSession}
 use Rattle.pc_calls.specs.declared.reply.Reply.{Reply}
 use Rattle.pc_calls.specs.declared.reply.Shown.{Shown}
 use Rattle.pc_calls.specs.declared.call.Call.{Call}
+use Rattle.pc_calls.specs.declared.call.Call.TheVariants.{Show, Choose, Retract}
 use Rattle.pc_calls.specs.Answer.{Answer, ◌>>=◌, required}
 use Rattle.pc_calls.specs.Heads.{head_by, is_shown, reply, session_told, shown_by, shown_of, version_told}
-use Rattle.pc_calls.specs.Selection.{Selection, shown}
+use Rattle.pc_calls.specs.Selection.{Selection, choose, retract, show, shown}
 use Rattle.pc_calls.specs.State.{Caller, OpenSession, State, Version, numbered, file_of, is_session, is_owned, session_of, version_in, live_versions, open_sessions}
 use Rattle.pc_calls.specs.Step.{after, asking, change_first, drop_first, given, in_session, outcome_of, state_of, with_selection}
 use Rattle.pc_session.specs.Visit.{Visit, visit_after}
@@ -106,10 +107,10 @@ module _ (files : List Contents) (entered left : Bool) (opened : ℕ) (visits : 
   abbrev here : State
   here = state_by files entered left opened visits
 
-  session-found : (number : ℕ) (found : Option Visit) → find (has_number number) visits ≡ found → session_of here 1 number ≡ option_map owned found
+  pub session-found : (number : ℕ) (found : Option Visit) → find (has_number number) visits ≡ found → session_of here 1 number ≡ option_map owned found
   session-found number found e = find-owned number visits ∙ ap (option_map owned) e
 
-  file-found : (visit : Visit) → IsPinned files visit → file_of here visit.version ≡ Some visit.file
+  pub file-found : (visit : Visit) → IsPinned files visit → file_of here visit.version ≡ Some visit.file
   file-found visit pinned = numbered-shelf files visit.version ∙ pinned
 
   -- no session has the number
@@ -125,11 +126,11 @@ module _ (files : List Contents) (entered left : Bool) (opened : ℕ) (visits : 
       ∙ ap (λ (o : Option Contents). required o NoSession >>= (λ file. ask file visit.selection >>= (λ selection. Ok (with_selection 1 number selection here)))) (file-found visit pinned)
 
 -- a call that is a session's own
-record IsOwn (call : Call) (number : ℕ) (ask : Contents → Selection → Answer Selection) (here : State) : Type 0 where
-  gives : given 1 call here ≡ in_session 1 number ask here
-  told : (result : Answer State) → session_told 1 call result ≡ number
-  versioned : (result : Answer State) → version_told 1 call here result ≡ version_in (state_of here result) 1 number
-  does_show : is_shown call ≡ true
+pub record IsOwn (call : Call) (number : ℕ) (ask : Contents → Selection → Answer Selection) (here : State) : Type 0 where
+  pub gives : given 1 call here ≡ in_session 1 number ask here
+  pub told : (result : Answer State) → session_told 1 call result ≡ number
+  pub versioned : (result : Answer State) → version_told 1 call here result ≡ version_in (state_of here result) 1 number
+  pub does_show : is_shown call ≡ true
 
 abbrev reply_by : Call → State → Answer State → Reply
 reply_by call here result = record { head = head_by 1 call here result; shown = shown_by 1 call result }
@@ -196,3 +197,12 @@ module _ (files : List Contents) (entered left : Bool) (opened : ℕ) (visits : 
 
   pub own_after : after 1 call before ≡ later_by
   own_after = (of-found (find (has_number number) visits) refl).1
+
+pub is_show : (number : ℕ) (here : State) → IsOwn (Show number) number show here
+is_show number here = record { gives = refl; told = λ result. refl; versioned = λ result. refl; does_show = refl }
+
+pub is_choose : (number : ℕ) (variable value : List ℕ) (here : State) → IsOwn (Choose number variable value) number (choose variable value) here
+is_choose number variable value here = record { gives = refl; told = λ result. refl; versioned = λ result. refl; does_show = refl }
+
+pub is_retract : (number : ℕ) (variable : List ℕ) (here : State) → IsOwn (Retract number variable) number (retract variable) here
+is_retract number variable here = record { gives = refl; told = λ result. refl; versioned = λ result. refl; does_show = refl }

@@ -1,0 +1,72 @@
+-- What a shop keeps of its sessions and versions from call to call.
+use Rattle.std.proofs.Common.{◌≡◌, ℕ, zero, suc, ◌+◌, ◌-◌, ◌<◌, ◌≤◌, ◌==◌, Bool, true, false, cond, List, [], ◌∷◌, ◌++◌, length, map, Option, Some, None, Ok, Err, slice_get, All, refl, sym, ap, ◌∙◌, arith}
+use Rattle.std.proofs.lemmas.List.Elements.{All-head, All-tail, All-nil, All-cons, All-append}
+use Rattle.pc_file.specs.Limits.{Contents}
+use Rattle.pc_calls.specs.Answer.{Answer}
+use Rattle.pc_calls.specs.Selection.{Selection}
+use Rattle.pc_calls.specs.State.{numbered}
+use Rattle.pc_session.specs.Visit.{Visit, visit_after}
+use Rattle.pc_script.specs.ShopState.{IsPinned}
+use Rattle.pc_script.specs.Visits.{has_number, visits_after, without_number}
+
+kept-after : (P : Visit → Type 0) → ((visit : Visit) (result : Answer Selection) → P visit → P (visit_after visit result)) → (number : ℕ) (ask : Contents → Selection → Answer Selection) (visits : List Visit) → All P visits → All P (visits_after number ask visits)
+kept-after P keeps number ask [] all = all
+kept-after P keeps number ask (visit ∷ visits) all =
+    elim (visit.number == number) as (λ b. All P (cond b (visit_after visit (ask visit.file visit.selection) ∷ visits) (visit ∷ visits_after number ask visits))) [
+      | true ↦ All-cons P (visit_after visit (ask visit.file visit.selection)) visits (keeps visit (ask visit.file visit.selection) (All-head P visit visits all)) (All-tail P visit visits all)
+      | false ↦ All-cons P visit (visits_after number ask visits) (All-head P visit visits all) (kept-after P keeps number ask visits (All-tail P visit visits all))
+    ]
+
+pinned-visit : (files : List Contents) (visit : Visit) (result : Answer Selection) → IsPinned files visit → IsPinned files (visit_after visit result)
+pinned-visit files visit (Ok selection) pinned = pinned
+pinned-visit files visit (Err refusal) pinned = pinned
+
+low-visit : (opened : ℕ) (visit : Visit) (result : Answer Selection) → visit.number ≤ opened → (visit_after visit result).number ≤ opened
+low-visit opened visit (Ok selection) low = low
+low-visit opened visit (Err refusal) low = low
+
+pub pinned_after : (files : List Contents) (number : ℕ) (ask : Contents → Selection → Answer Selection) (visits : List Visit) → All (IsPinned files) visits → All (IsPinned files) (visits_after number ask visits)
+pinned_after files number ask visits all = kept-after (IsPinned files) (pinned-visit files) number ask visits all
+
+pub low_after : (opened number : ℕ) (ask : Contents → Selection → Answer Selection) (visits : List Visit) → All (λ v. v.number ≤ opened) visits → All (λ v. v.number ≤ opened) (visits_after number ask visits)
+low_after opened number ask visits all = kept-after (λ v. v.number ≤ opened) (low-visit opened) number ask visits all
+
+pub kept_without : (P : Visit → Type 0) (number : ℕ) (visits : List Visit) → All P visits → All P (without_number number visits)
+kept_without P number [] all = all
+kept_without P number (visit ∷ visits) all =
+    elim (visit.number == number) as (λ b. All P (cond b visits (visit ∷ without_number number visits))) [
+      | true ↦ All-tail P visit visits all
+      | false ↦ All-cons P visit (without_number number visits) (All-head P visit visits all) (kept_without P number visits (All-tail P visit visits all))
+    ]
+
+-- one more
+pub kept_push : {X : Type 0} (P : X → Type 0) (xs : List X) (x : X) → All P xs → P x → All P (xs ++ x ∷ [])
+kept_push P xs x all one = All-append P xs (x ∷ []) all (All-cons P x [] one (All-nil P))
+
+kept-implied : (P Q : Visit → Type 0) → ((visit : Visit) → P visit → Q visit) → (visits : List Visit) → All P visits → All Q visits
+kept-implied P Q implies [] all = All-nil Q
+kept-implied P Q implies (visit ∷ visits) all = All-cons Q visit visits (implies visit (All-head P visit visits all)) (kept-implied P Q implies visits (All-tail P visit visits all))
+
+slice_get-more : (files more : List Contents) (place : ℕ) (file : Contents) → slice_get files place ≡ Some file → slice_get (files ++ more) place ≡ Some file
+slice_get-more [] more place file e = absurd cc
+slice_get-more (f ∷ files) more zero file e = e
+slice_get-more (f ∷ files) more (suc place) file e = slice_get-more files more place file e
+
+numbered-more : (files more : List Contents) (version : ℕ) (file : Contents) → numbered files version ≡ Some file → numbered (files ++ more) version ≡ Some file
+numbered-more files more zero file e = absurd cc
+numbered-more files more (suc place) file e = slice_get-more files more place file e
+
+-- a version more takes no session's file
+pub pinned_more : (files more : List Contents) (visits : List Visit) → All (IsPinned files) visits → All (IsPinned (files ++ more)) visits
+pinned_more files more visits all = kept-implied (IsPinned files) (IsPinned (files ++ more)) (λ visit pinned. numbered-more files more visit.version visit.file pinned) visits all
+
+-- a session more is numbered higher
+pub low_more : (opened : ℕ) (visits : List Visit) → All (λ v. v.number ≤ opened) visits → All (λ v. v.number ≤ opened + 1) visits
+low_more opened visits all = kept-implied (λ v. v.number ≤ opened) (λ v. v.number ≤ opened + 1) (λ visit low. omega (arith, low)) visits all
+
+-- the last version is that of the greatest number
+pub numbered_last : (files : List Contents) (file : Contents) → slice_get files (length files - 1) ≡ Some file → numbered files (length files) ≡ Some file
+numbered_last [] file e = absurd cc
+numbered_last (f ∷ files) file e =
+    let place : length (f ∷ files) - 1 ≡ length files = omega arith in
+    ap (slice_get (f ∷ files)) (sym place) ∙ e
