@@ -1,6 +1,7 @@
 pub mod AnswerLemmas
 pub mod Bodies
 pub mod HeardNext
+pub mod MadeCalls
 pub mod Places
 pub mod ScriptRun
 pub mod ShopCalls

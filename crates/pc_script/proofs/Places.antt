@@ -1,6 +1,5 @@
 -- The session of a number, by its place among the open sessions.
 use Rattle.std.proofs.Common.{◌≡◌, ℕ, zero, suc, ◌+◌, ◌<◌, ◌≤◌, nat_lt, Bool, true, false, not, cond, List, [], ◌∷◌, ◌++◌, length, take, drop, find, Option, Some, None, Ok, Err, slice_index_or, slice_set, refl, sym, ap, ◌∙◌, inl, inr, arith}
-use Rattle.std.specs.Prelude.{Result, IfOk, OnOk}
 use Rattle.std.specs.List.{position, position_or_len}
 use Rattle.std.proofs.lemmas.Bool.{cases_Bool, ltb-false, not-true}
 use Rattle.std.proofs.lemmas.Bool.Decides.{nat_tests}
@@ -90,18 +89,11 @@ pub replied_is : (visit : Visit) (given : Answer Selection)
 replied_is visit (Ok selection) = refl
 replied_is visit (Err refusal) = refl
 
-pub session_reply : {E : Type 0} (number : ℕ) (ask : Contents → Selection → Answer Selection) (visits : List Visit) (visit later : Visit) (answer : declared.Answer) (result : Result Reply E)
+pub session_reply : (number : ℕ) (ask : Contents → Selection → Answer Selection) (visits : List Visit) (visit later : Visit) (answer : declared.Answer)
     → find (has_number number) visits ≡ Some visit → later ≡ visit_after visit (ask visit.file visit.selection) → answer ≡ answer_to visit.file (ask visit.file visit.selection)
-    → IfOk result (λ reply. reply ≡ record { head = plain_head later.number later.version answer.outcome; shown = shown_with later.file answer.listing })
-    → IfOk result (λ reply. reply ≡ reply_among number ask visits)
-session_reply number ask visits visit later answer (Ok reply) found after is said =
-    said
-    ∙ ap (λ (v : Visit). record { head = plain_head v.number v.version answer.outcome; shown = shown_with v.file answer.listing }) after
+    → record { head = plain_head later.number later.version answer.outcome; shown = shown_with later.file answer.listing } ≡ reply_among number ask visits
+session_reply number ask visits visit later answer found after is =
+    ap (λ (v : Visit). record { head = plain_head v.number v.version answer.outcome; shown = shown_with v.file answer.listing }) after
     ∙ ap (λ (a : declared.Answer). record { head = plain_head (visit_after visit (ask visit.file visit.selection)).number (visit_after visit (ask visit.file visit.selection)).version a.outcome; shown = shown_with (visit_after visit (ask visit.file visit.selection)).file a.listing }) is
     ∙ replied_is visit (ask visit.file visit.selection)
     ∙ ap (reply_at number ask) (sym found)
-session_reply number ask visits visit later answer (Err error) found after is said = tt
-
-pub on_ok : {A E : Type 0} (result : Result A E) (P : Type 0) → P → OnOk result P
-on_ok (Ok x) P h = h
-on_ok (Err e) P h = tt

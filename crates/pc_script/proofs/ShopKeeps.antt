@@ -1,5 +1,6 @@
 -- What a shop keeps of its sessions and versions from call to call.
-use Rattle.std.proofs.Common.{◌≡◌, ℕ, zero, suc, ◌+◌, ◌-◌, ◌<◌, ◌≤◌, ◌==◌, Bool, true, false, cond, List, [], ◌∷◌, ◌++◌, length, map, Option, Some, None, Ok, Err, slice_get, All, refl, sym, ap, ◌∙◌, arith}
+use Rattle.std.proofs.Common.{◌≡◌, ℕ, zero, suc, ◌+◌, ◌-◌, ◌<◌, ◌≤◌, ◌==◌, Bool, true, false, cond, List, [], ◌∷◌, ◌++◌, length, map, Option, Some, None, Ok, Err, slice_get, All, refl, sym, subst, ap, ◌∙◌, arith}
+use Rattle.std.specs.Prelude.{Result, IfOk, OnOk, OnErr}
 use Rattle.std.proofs.lemmas.List.Elements.{All-head, All-tail, All-nil, All-cons, All-append}
 use Rattle.pc_file.specs.Limits.{Contents}
 use Rattle.pc_calls.specs.Answer.{Answer}
@@ -70,3 +71,20 @@ numbered_last [] file e = absurd cc
 numbered_last (f ∷ files) file e =
     let place : length (f ∷ files) - 1 ≡ length files = omega arith in
     ap (slice_get (f ∷ files)) (sym place) ∙ e
+
+-- what both outcomes of a call keep
+pub either_kept : {A E : Type 0} (result : Result A E) (P : List Visit → Type 0) (old later new : List Visit) → OnOk result (new ≡ later) → OnErr result (new ≡ old) → P old → P later → P new
+either_kept (Ok x) P old later new done kept was is = subst P (sym done) is
+either_kept (Err e) P old later new done kept was is = subst P (sym kept) was
+
+pub if_ok_to : {A E : Type 0} (result : Result A E) (a b : A) → IfOk result (λ x. x ≡ a) → a ≡ b → IfOk result (λ x. x ≡ b)
+if_ok_to (Ok x) a b h e = h ∙ e
+if_ok_to (Err error) a b h e = tt
+
+pub on_ok_to : {A E X : Type 0} (result : Result A E) (f : List Visit → X) (new later : List Visit) (after : X) → OnOk result (new ≡ later) → f later ≡ after → OnOk result (f new ≡ after)
+on_ok_to (Ok x) f new later after h e = ap f h ∙ e
+on_ok_to (Err error) f new later after h e = tt
+
+pub on_ok_is : {A E : Type 0} (result : Result A E) (P : Type 0) → P → OnOk result P
+on_ok_is (Ok x) P h = h
+on_ok_is (Err error) P h = tt

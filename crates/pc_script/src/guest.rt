@@ -1,12 +1,13 @@
 //! A caller's open sessions.
 
-ghost use Rattle.std.specs.Prelude.{◌≡◌, ◌==◌, ◌<◌, ◌++◌, ◌∷◌, [], not, filter, length, position, find, IfOk, OnOk, IfSome, Some, None, Ok, Err};
+ghost use Rattle.std.specs.Prelude.{◌≡◌, ◌==◌, ◌<◌, ◌≤◌, ◌+◌, ◌^◌, ◌++◌, ◌∷◌, [], not, filter, length, position, find, IfOk, OnOk, OnErr, IfSome, Some, None, Ok, Err};
 ghost use Rattle.pc_calls.specs.declared.outcome.Outcome.TheVariants.{Done};
-ghost use Rattle.pc_calls.specs.Selection.{choose, retract, show, shown};
+ghost use Rattle.pc_calls.specs.Selection.{choose, free, retract, show, shown};
+ghost use Rattle.pc_file.specs.Products.{products, words_of};
 ghost use Rattle.pc_script.specs.Visits.{has_number, no_session_reply, plain_head, close_reply, reply_among, shown_with, visits_after, without_number};
 
 use pc_base::{NoMemory, Sequence};
-use pc_calls::{Head, Outcome, Reply, Shown};
+use pc_calls::{Head, Outcome, Reply, SharedFile, Shown};
 use pc_diagram::Listing;
 use pc_names::Name;
 use pc_session::{Answer, Session};
@@ -43,28 +44,25 @@ pub fn refused(alloc: Global, session: u64, version: u64, refusal: Outcome) -> R
     }
 }
 
-/// A session's file with a listing, where there is one.
-fn shown_with(session: &Session, listing: Option<Listing>) -> Result<Option<Shown>, NoMemory>
-    ensures { IfOk result (λ shown. shown ≡ shown_with session.now.file listing) }
+/// A file with a listing, where there is one.
+fn shown_with(file: SharedFile, listing: Option<Listing>) -> Option<Shown>
+    ensures { result ≡ shown_with file listing }
 {
     match listing {
-        Some(listing) => Ok(Some(Shown {
-            file: session.file().share()?,
-            listing,
-        })),
-        None => Ok(None),
+        Some(listing) => Some(Shown { file, listing }),
+        None => None,
     }
 }
 
-/// The reply to what a session answered.
-fn replied(alloc: Global, session: &Session, answer: Answer) -> Result<Reply, NoMemory>
-    ensures { IfOk result (λ reply. reply ≡ record { head = plain_head session.now.number session.now.version answer.outcome; shown = shown_with session.now.file answer.listing }) }
+/// The reply to what a session with this file answered.
+fn replied(alloc: Global, session: &Session, file: SharedFile, answer: Answer) -> Reply
+    requires { file ≡ session.now.file }
+    ensures { result ≡ record { head = plain_head session.now.number session.now.version answer.outcome; shown = shown_with session.now.file answer.listing } }
 {
-    let shown = shown_with(session, answer.listing)?;
-    Ok(Reply {
+    Reply {
         head: plain_head(alloc, session.number(), session.version(), answer.outcome),
-        shown,
-    })
+        shown: shown_with(file, answer.listing),
+    }
 }
 
 /// Where the session of a number stands.
@@ -77,6 +75,30 @@ fn place(sessions: &[Session], number: u64) -> Option<usize>
 }
 
 impl Guest {
+    /// Opens a session at a version with its file, which has a product and at most 65,536 words.
+    pub fn open(&mut self, version: u64, file: SharedFile) -> Result<Reply, NoMemory>
+        requires few { words_of file ≤ 65536 }
+        requires product { 1 ≤ length (products file) }
+        requires room { self.old.opened < 2 ^ 63 }
+        ensures reply { IfOk result (λ reply. reply ≡ record { head = plain_head (self.old.opened + 1) version Done; shown = Some (record { file = file; listing = shown file free }) }) }
+        ensures sessions { OnOk result (self.new.sessions.items ≡ self.old.sessions.items ++ record { number = self.old.opened + 1; version = version; file = file; selection = free } ∷ []) }
+        ensures opened { OnOk result (self.new.opened ≡ self.old.opened + 1) }
+        ensures kept { OnErr result ((self.new.sessions.items ≡ self.old.sessions.items) × (self.new.opened ≡ self.old.opened)) }
+    {
+        let number = self.opened + 1;
+        let (session, listing) = Session::start(self.alloc, number, file, version)?;
+        let shown = Shown {
+            file: session.file().share()?,
+            listing,
+        };
+        self.sessions.push(session)?;
+        self.opened = number;
+        Ok(Reply {
+            head: plain_head(self.alloc, number, version, Outcome::Done),
+            shown: Some(shown),
+        })
+    }
+
     /// The listing of a session.
     pub fn show(&self, number: u64) -> Result<Reply, NoMemory>
         ensures { IfOk result (λ reply. reply ≡ reply_among number show self.now.sessions.items) }
@@ -85,39 +107,44 @@ impl Guest {
             return Ok(refused(self.alloc, number, 0, Outcome::NoSession));
         };
         let session = &self.sessions[place];
+        let file = session.file().share()?;
         let answer = Answer {
             outcome: Outcome::Done,
             listing: Some(session.show()?),
         };
-        replied(self.alloc, session, answer)
+        Ok(replied(self.alloc, session, file, answer))
     }
 
     /// Chooses a value in a session.
     pub fn choose(&mut self, number: u64, variable: &Name, value: &Name) -> Result<Reply, NoMemory>
         ensures reply { IfOk result (λ reply. reply ≡ reply_among number (choose variable.now value.now) self.old.sessions.items) }
         ensures sessions { OnOk result (self.new.sessions.items ≡ visits_after number (choose variable.now value.now) self.old.sessions.items) }
+        ensures kept { OnErr result (self.new.sessions.items ≡ self.old.sessions.items) }
         ensures opened { self.new.opened ≡ self.old.opened }
     {
         let Some(place) = place(self.sessions.as_slice(), number) else {
             return Ok(refused(self.alloc, number, 0, Outcome::NoSession));
         };
         let session = &mut self.sessions[place];
+        let file = session.file().share()?;
         let answer = session.choose(variable, value)?;
-        replied(self.alloc, session, answer)
+        Ok(replied(self.alloc, session, file, answer))
     }
 
     /// Takes back a choice in a session.
     pub fn retract(&mut self, number: u64, variable: &Name) -> Result<Reply, NoMemory>
         ensures reply { IfOk result (λ reply. reply ≡ reply_among number (retract variable.now) self.old.sessions.items) }
         ensures sessions { OnOk result (self.new.sessions.items ≡ visits_after number (retract variable.now) self.old.sessions.items) }
+        ensures kept { OnErr result (self.new.sessions.items ≡ self.old.sessions.items) }
         ensures opened { self.new.opened ≡ self.old.opened }
     {
         let Some(place) = place(self.sessions.as_slice(), number) else {
             return Ok(refused(self.alloc, number, 0, Outcome::NoSession));
         };
         let session = &mut self.sessions[place];
+        let file = session.file().share()?;
         let answer = session.retract(variable)?;
-        replied(self.alloc, session, answer)
+        Ok(replied(self.alloc, session, file, answer))
     }
 
     /// Ends a session.

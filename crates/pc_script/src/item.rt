@@ -43,7 +43,7 @@ impl Announced {
     /// What the publish says with its text.
     pub fn with(self, body: Body) -> Said
         ensures said { result ≡ published self body }
-        ensures made { HasFewWords body → IsMade result }
+        ensures made { self.caller ≡ 1 → HasFewWords body → IsMade result }
     {
         let caller = self.caller;
         match body {

@@ -8,6 +8,7 @@ mod item;
 mod running;
 mod script_end;
 mod shop;
+mod speaking;
 mod turn;
 
 pub use running::run_script;

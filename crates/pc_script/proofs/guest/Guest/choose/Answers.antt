@@ -1,7 +1,7 @@
 use Rattle.std.proofs.Common.{sym, ap, ◌∙◌, slice_set}
 use Rattle.pc_calls.specs.Selection.{choose}
 use Rattle.pc_script.specs.Visits.{reply_at}
-use Rattle.pc_script.proofs.Places.{no_place, at_place, on_ok, session_reply}
+use Rattle.pc_script.proofs.Places.{no_place, at_place, session_reply}
 use Rattle.pc_script.proofs.guest.Guest.choose.Goals as goal
 
 pub returns-in_default-clause-reply : goal.returns-in_default-clause-reply
@@ -17,9 +17,9 @@ returns-in_default-clause-sessions c =
 pub returns-clause-reply : goal.returns-clause-reply
 returns-clause-reply c =
     let there = at_place c.args.number c.args.self.now.sessions.items c.in-Some.place c.index_mut-session.result.now (sym (rw c.as_slice.ensures.value at c.in-Some.ensures)) (sym c.index_mut-session.ensures.value) in
-    session_reply c.args.number (choose c.args.variable.now c.args.value.now) c.args.self.now.sessions.items c.index_mut-session.result.now c.choose.new.self c.in_ok-answer.answer c.replied.result there.0 c.in_ok-answer.ensures.session c.in_ok-answer.ensures.answer c.replied.ensures
+    c.replied.ensures ∙ session_reply c.args.number (choose c.args.variable.now c.args.value.now) c.args.self.now.sessions.items c.index_mut-session.result.now c.choose.new.self c.in_ok-answer.answer there.0 c.in_ok-answer.ensures.session c.in_ok-answer.ensures.answer
 
 pub returns-clause-sessions : goal.returns-clause-sessions
 returns-clause-sessions c =
     let there = at_place c.args.number c.args.self.now.sessions.items c.in-Some.place c.index_mut-session.result.now (sym (rw c.as_slice.ensures.value at c.in-Some.ensures)) (sym c.index_mut-session.ensures.value) in
-    on_ok c.replied.result _ (ap (slice_set c.args.self.now.sessions.items c.in-Some.place) c.in_ok-answer.ensures.session ∙ sym (there.1 (choose c.args.variable.now c.args.value.now)))
+    ap (slice_set c.args.self.now.sessions.items c.in-Some.place) c.in_ok-answer.ensures.session ∙ sym (there.1 (choose c.args.variable.now c.args.value.now))

@@ -12,4 +12,4 @@ returns-in_default c =
 pub returns : goal.returns
 returns c =
     let there = at_place c.args.number c.args.self.now.sessions.items c.in-Some.place c.index-session.result.now (sym (rw c.as_slice.ensures.value at c.in-Some.ensures)) (sym c.index-session.ensures) in
-    session_reply c.args.number show c.args.self.now.sessions.items c.index-session.result.now c.index-session.result.now _ c.replied.result there.0 refl (ap (λ l. record { outcome = _; listing = Some l }) c.in_ok-show.ensures) c.replied.ensures
+    c.replied.ensures ∙ session_reply c.args.number show c.args.self.now.sessions.items c.index-session.result.now c.index-session.result.now _ there.0 refl (ap (λ l. record { outcome = _; listing = Some l }) c.in_ok-show.ensures)
