@@ -1,5 +1,5 @@
 -- A script that waits for the text of a publish, line by line.
-use Rattle.std.proofs.Common.{◌≡◌, ℕ, ◌+◌, ◌<◌, ◌≤◌, nat_le, Bool, true, false, cond, List, [], ◌∷◌, ◌++◌, length, refl, sym, ap, ◌∙◌, arith, length-append, append_assoc}
+use Rattle.std.proofs.Common.{◌≡◌, ℕ, ◌+◌, ◌<◌, Bool, true, false, cond, List, [], ◌∷◌, ◌++◌, length, refl, sym, ap, ◌∙◌, arith, length-append, append_assoc}
 use Rattle.std.proofs.lemmas.Bool.Decides.{nat_tests}
 use Rattle.std.proofs.lemmas.List.{append-nil}
 use Rattle.pc_calls.specs.State.{State}
@@ -9,7 +9,7 @@ use Rattle.pc_script.specs.declared.item.Heard.{Heard}
 use Rattle.pc_script.specs.declared.item.Heard.TheVariants.{Item, Publish}
 use Rattle.pc_script.specs.declared.item.Said.{Said}
 use Rattle.pc_script.specs.Heard.{heard, published}
-use Rattle.pc_script.specs.Script.{Script, commanded, publishing, item_text, item_after, is_whole, said_with, body_text, body_after, heard_text, heard_after, line_text, line_after, answers, after_lines, end_text, last_answers}
+use Rattle.pc_script.specs.Script.{Script, commanded, publishing, item_text, item_after, is_whole, said_with, body_text, body_after, heard_text, heard_after, answers, after_lines, end_text, last_answers}
 
 module _ (state : State) (head : Announced) where
   text-whole : (done : List (List ℕ)) → is_whole head done ≡ true → body_text state head done ≡ item_text state (said_with head done)

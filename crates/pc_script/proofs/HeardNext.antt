@@ -1,27 +1,27 @@
 -- What one turn of a script hears.
-use Rattle.std.proofs.Common.{◌≡◌, ℕ, ◌+◌, ◌<◌, ◌≤◌, Bool, true, false, List, [], ◌∷◌, ◌++◌, length, Option, Some, None, Ok, Err, IsTrue, IfSome, refl, sym, ap, ◌∙◌, arith}
+use Rattle.std.proofs.Common.{◌≡◌, ℕ, false, List, [], ◌∷◌, ◌++◌, Option, Ok, Err, IsTrue, IfSome, refl, sym, ap, ◌∙◌, arith}
 use Rattle.std.specs.Io.KnownBytes.{prepend_known}
 use Rattle.pc_base.specs.Lines.{HasNoFeed}
 use Rattle.pc_io.specs.declared.line_fault.LineFault.{LineFault}
 use Rattle.pc_io.specs.declared.line_fault.LineFault.TheVariants as line
 use Rattle.pc_io.specs.Cutter.{Cutter, left_to_give, stream}
-use Rattle.pc_io.specs.NextLine.{answer_to, is_outside_fault, taken}
+use Rattle.pc_io.specs.NextLine.{answer_to, is_outside_fault}
 use Rattle.pc_io.specs.Took.{Moment, Took, Stopped}
-use Rattle.pc_io.proofs.TookLemmas.{took_nothing, took_line, took_on, took_both, stopped_at}
+use Rattle.pc_io.proofs.TookLemmas.{took_nothing, took_on, took_both, stopped_at}
 use Rattle.pc_calls.specs.State.{State}
 use Rattle.pc_conn.specs.declared.body.Body.{Body}
 use Rattle.pc_conn.specs.declared.body.Body.TheVariants.{File, Fault, NotBuilt, Cut}
 use Rattle.pc_conn.specs.declared.body_fault.BodyFault.{BodyFault}
 use Rattle.pc_conn.specs.declared.body_fault.BodyFault.TheVariants as body
-use Rattle.pc_conn.specs.Reading.{ReadsBody, GivesBody, IsCut, IsStopped}
+use Rattle.pc_conn.specs.Reading.{ReadsBody, GivesBody, IsStopped}
 use Rattle.pc_script.specs.declared.item.Announced.{Announced}
 use Rattle.pc_script.specs.declared.item.Heard.TheVariants.{Item, Publish}
 use Rattle.pc_script.specs.declared.item.Said.{Said}
 use Rattle.pc_script.specs.Ends.{end_by, end_by_body}
 use Rattle.pc_script.specs.Heard.{heard, published}
-use Rattle.pc_script.specs.Script.{commanded, answers, after_lines, item_text, item_after}
-use Rattle.pc_script.specs.Turns.{SaysNext, SaysLast, HearsNone, HearsLimit, HearsTurn, Hears, turn_after}
-use Rattle.pc_script.proofs.Bodies.{body-text, body-after, part-text, part-after, announced-text, announced-after, said-text, said-after, cut-text}
+use Rattle.pc_script.specs.Script.{commanded, answers, item_text, item_after}
+use Rattle.pc_script.specs.Turns.{SaysNext, HearsNone, HearsTurn, Hears, turn_after}
+use Rattle.pc_script.proofs.Bodies.{body-text, body-after, part-text, announced-text, announced-after, said-text, said-after, cut-text}
 
 none-silent : (state : State) → answers (commanded state) [] ≡ []
 unfolding answers

@@ -1,5 +1,5 @@
 -- What running a script keeps from turn to turn, and what each end leaves.
-use Rattle.std.proofs.Common.{◌≡◌, ℕ, ◌+◌, ◌-◌, ◌<◌, ◌≤◌, Bool, true, false, List, [], ◌∷◌, ◌++◌, length, take, Option, Some, None, Ok, Err, IsTrue, IfSome, refl, sym, subst, ap, ◌∙◌, arith, length-append, append_assoc}
+use Rattle.std.proofs.Common.{◌≡◌, ℕ, ◌+◌, ◌-◌, ◌≤◌, false, List, [], ◌++◌, length, take, Option, Some, None, Err, IsTrue, IfSome, refl, sym, subst, ap, ◌∙◌, arith, length-append, append_assoc}
 use Rattle.std.specs.Io.KnownBytes.{IsAtEnd, append_known, prepend_known}
 use Rattle.std.proofs.Math.Seq.{take-append_seam, take-append-add}
 use Rattle.std.proofs.lemmas.Bool.{both_ways}
@@ -7,15 +7,13 @@ use Rattle.std.proofs.lemmas.List.{append-nil, take-append-le}
 use Rattle.pc_base.specs.Lines.{lines}
 use Rattle.pc_base.specs.Rose.{Rose}
 use Rattle.pc_base.proofs.LineCuts.{lines-nil}
-use Rattle.pc_io.specs.declared.line_fault.LineFault.{LineFault}
 use Rattle.pc_io.specs.declared.line_fault.LineFault.TheVariants as line
 use Rattle.pc_io.specs.Aside.{Aside}
 use Rattle.pc_io.specs.Cutter.{Cutter, left_to_give, stream}
-use Rattle.pc_io.specs.Ends.{Ends}
 use Rattle.pc_io.specs.Limits.{broken_limit}
 use Rattle.pc_io.specs.NextLine.{answer_to}
 use Rattle.pc_io.specs.Told.{GrewByPart}
-use Rattle.pc_io.specs.Took.{Moment, coming, MayCome, Took, Stopped}
+use Rattle.pc_io.specs.Took.{Moment, coming, MayCome, Took}
 use Rattle.pc_io.proofs.LimitSteps.{answer-breaks, broken-nil}
 use Rattle.pc_io.proofs.Pieces.{append_known-append, prepend_known-append}
 use Rattle.pc_io.proofs.TookLemmas.{prepend_none, took_nothing, took_both}

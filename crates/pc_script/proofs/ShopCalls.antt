@@ -1,24 +1,22 @@
 -- The calls of a shop with one caller, against the definition of a step.
-use Rattle.std.proofs.Common.{◌≡◌, ℕ, zero, suc, ◌+◌, ◌<◌, ◌≤◌, ◌==◌, ◌&&◌, nat_le, Bool, true, false, not, cond, List, [], ◌∷◌, ◌++◌, length, map, filter, find, Option, Some, None, Ok, Err, option_map, slice_get, All, refl, sym, subst, ap, ◌∙◌, arith}
-use Rattle.std.specs.Prelude.{Result, count_by, option_and_then, unwrap_or}
+use Rattle.std.proofs.Common.{◌≡◌, ℕ, zero, suc, ◌==◌, Bool, true, false, cond, List, [], ◌∷◌, map, find, Option, Some, None, Ok, Err, option_map, slice_get, All, refl, sym, subst, ap, ◌∙◌, arith}
+use Rattle.std.specs.Prelude.{option_and_then, unwrap_or}
 use Rattle.std.proofs.lemmas.Bool.Decides.{nat_tests}
-use Rattle.std.proofs.lemmas.List.Elements.{All-head, All-tail, All-nil, All-cons}
-use Rattle.std.proofs.lemmas.List.{append-nil}
+use Rattle.std.proofs.lemmas.List.Elements.{All-head, All-tail}
 use Rattle.pc_file.specs.Limits.{Contents}
 use Rattle.pc_calls.specs.declared.outcome.Outcome.{Outcome}
 use Rattle.pc_calls.specs.declared.outcome.Outcome.TheVariants.{Done, NoSession}
 use Rattle.pc_calls.specs.declared.reply.Reply.{Reply}
-use Rattle.pc_calls.specs.declared.reply.Shown.{Shown}
 use Rattle.pc_calls.specs.declared.call.Call.{Call}
 use Rattle.pc_calls.specs.declared.call.Call.TheVariants.{Show, Choose, Retract}
 use Rattle.pc_calls.specs.Answer.{Answer, ◌>>=◌, required}
 use Rattle.pc_calls.specs.Heads.{head_by, is_shown, reply, session_told, shown_by, shown_of, version_told}
 use Rattle.pc_calls.specs.Selection.{Selection, choose, retract, show, shown}
-use Rattle.pc_calls.specs.State.{Caller, OpenSession, State, Version, numbered, file_of, is_session, is_owned, session_of, version_in, live_versions, open_sessions}
-use Rattle.pc_calls.specs.Step.{after, asking, change_first, drop_first, given, in_session, outcome_of, state_of, with_selection}
+use Rattle.pc_calls.specs.State.{OpenSession, State, numbered, file_of, is_session, session_of, version_in}
+use Rattle.pc_calls.specs.Step.{after, asking, change_first, given, in_session, state_of, with_selection}
 use Rattle.pc_session.specs.Visit.{Visit, visit_after}
-use Rattle.pc_script.specs.ShopState.{IsPinned, IsShelved, callers_by, on_shelf, owned, state_by}
-use Rattle.pc_script.specs.Visits.{has_number, no_session_reply, plain_head, reply_at, reply_among, visit_reply, visits_after, without_number}
+use Rattle.pc_script.specs.ShopState.{IsPinned, callers_by, on_shelf, owned, state_by}
+use Rattle.pc_script.specs.Visits.{has_number, plain_head, reply_at, reply_among, visit_reply, visits_after}
 
 -- the session of a number, among those of the one caller
 find-owned : (number : ℕ) (visits : List Visit) → find (is_session 1 number) (map owned visits) ≡ option_map owned (find (has_number number) visits)

@@ -1,14 +1,14 @@
 -- What a shop keeps of its sessions and versions from call to call.
-use Rattle.std.proofs.Common.{◌≡◌, ℕ, zero, suc, ◌+◌, ◌-◌, ◌<◌, ◌≤◌, ◌==◌, Bool, true, false, cond, List, [], ◌∷◌, ◌++◌, length, map, Option, Some, None, Ok, Err, slice_get, All, refl, sym, subst, ap, ◌∙◌, arith}
+use Rattle.std.proofs.Common.{◌≡◌, ℕ, zero, suc, ◌+◌, ◌-◌, ◌<◌, ◌≤◌, ◌==◌, Bool, true, false, cond, List, [], ◌∷◌, ◌++◌, length, Some, None, Ok, Err, slice_get, All, refl, sym, subst, ap, ◌∙◌, arith}
 use Rattle.std.specs.Prelude.{Result, IfOk, OnOk, OnErr}
 use Rattle.std.proofs.lemmas.List.Elements.{All-head, All-tail, All-nil, All-cons, All-append}
 use Rattle.pc_file.specs.Limits.{Contents}
 use Rattle.pc_calls.specs.Answer.{Answer}
-use Rattle.pc_calls.specs.Selection.{Selection}
+use Rattle.pc_calls.specs.Selection.{Selection, show}
 use Rattle.pc_calls.specs.State.{numbered}
 use Rattle.pc_session.specs.Visit.{Visit, visit_after}
-use Rattle.pc_script.specs.ShopState.{IsPinned}
-use Rattle.pc_script.specs.Visits.{has_number, visits_after, without_number}
+use Rattle.pc_script.specs.ShopState.{IsPinned, callers_by}
+use Rattle.pc_script.specs.Visits.{visits_after, without_number}
 
 kept-after : (P : Visit → Type 0) → ((visit : Visit) (result : Answer Selection) → P visit → P (visit_after visit result)) → (number : ℕ) (ask : Contents → Selection → Answer Selection) (visits : List Visit) → All P visits → All P (visits_after number ask visits)
 kept-after P keeps number ask [] all = all
@@ -88,3 +88,43 @@ on_ok_to (Err error) f new later after h e = tt
 pub on_ok_is : {A E : Type 0} (result : Result A E) (P : Type 0) → P → OnOk result P
 on_ok_is (Ok x) P h = h
 on_ok_is (Err error) P h = tt
+
+-- show leaves the sessions
+pub shown_leaves : (number : ℕ) (visits : List Visit) → visits_after number show visits ≡ visits
+shown_leaves number [] = refl
+shown_leaves number (visit ∷ visits) =
+    elim (visit.number == number) as (λ b. cond b (visit ∷ visits) (visit ∷ visits_after number show visits) ≡ visit ∷ visits)
+    [ true ↦ refl | false ↦ ap (λ (vs : List Visit). visit ∷ vs) (shown_leaves number visits) ]
+
+-- a caller that is told has entered
+pub is_inside : (entered left : Bool) (opened : ℕ) → length (callers_by entered left opened) ≡ 1 → entered ≡ true
+is_inside true left opened e = refl
+is_inside false left opened e = absurd cc
+
+-- what all have, one at a place has
+pub has_at : {X : Type 0} (P : X → Type 0) (xs : List X) (place : ℕ) (x : X) → All P xs → slice_get xs place ≡ Some x → P x
+has_at P [] place x all e = absurd cc
+has_at P (y ∷ ys) zero x all e = let same : y ≡ x = cc in subst P same (All-head P y ys all)
+has_at P (y ∷ ys) (suc place) x all e = has_at P ys place x (All-tail P y ys all) e
+
+-- there is one at each place
+pub some_at : {X : Type 0} (xs : List X) (place : ℕ) → place < length xs → slice_get xs place ≡ None → ⊥
+some_at [] place inside e = absurd (omega arith)
+some_at (x ∷ xs) zero inside e = cc
+some_at (x ∷ xs) (suc place) inside e = some_at xs place (omega (arith, inside)) e
+
+-- what both outcomes of an open keep
+pub open_keeps : {A E : Type 0} (result : Result A E) (files : List Contents) (opened opened_now : ℕ) (visits visits_now : List Visit) (new : Visit)
+    → OnOk result (visits_now ≡ visits ++ new ∷ []) → OnOk result (opened_now ≡ opened + 1) → OnErr result ((visits_now ≡ visits) × (opened_now ≡ opened))
+    → All (IsPinned files) visits → All (λ v. v.number ≤ opened) visits → IsPinned files new → new.number ≡ opened + 1
+    → All (IsPinned files) visits_now × All (λ v. v.number ≤ opened_now) visits_now
+open_keeps (Ok x) files opened opened_now visits visits_now new more one kept pinned low is_pinned numbered =
+    (subst (All (IsPinned files)) (sym more) (kept_push (IsPinned files) visits new pinned is_pinned),
+    subst (λ n. All (λ v. v.number ≤ n) visits_now) (sym one) (subst (All (λ v. v.number ≤ opened + 1)) (sym more) (kept_push (λ v. v.number ≤ opened + 1) visits new (low_more opened visits low) (omega (arith, numbered)))))
+open_keeps (Err e) files opened opened_now visits visits_now new more one kept pinned low is_pinned numbered =
+    (subst (All (IsPinned files)) (sym kept.0) pinned,
+    subst (λ n. All (λ v. v.number ≤ n) visits_now) (sym kept.1) (subst (All (λ v. v.number ≤ opened)) (sym kept.0) low))
+
+pub on_ok_two : {A E X : Type 0} (result : Result A E) (f : ℕ → List Visit → X) (opened_now opened : ℕ) (visits_now visits : List Visit) (after : X) → OnOk result (opened_now ≡ opened) → OnOk result (visits_now ≡ visits) → f opened visits ≡ after → OnOk result (f opened_now visits_now ≡ after)
+on_ok_two (Ok x) f opened_now opened visits_now visits after h k e = ap (λ (n : ℕ). f n visits_now) h ∙ ap (f opened) k ∙ e
+on_ok_two (Err error) f opened_now opened visits_now visits after h k e = tt

@@ -1,5 +1,5 @@
 -- The shared calls of a shop with one caller, against the definition of a step.
-use Rattle.std.proofs.Common.{◌≡◌, ℕ, zero, suc, ◌+◌, ◌-◌, ◌<◌, ◌≤◌, ◌==◌, nat_le, Bool, true, false, not, cond, List, [], ◌∷◌, ◌++◌, length, map, filter, find, Option, Some, None, Ok, Err, option_map, slice_get, All, refl, sym, ap, ◌∙◌, arith, length-append}
+use Rattle.std.proofs.Common.{◌≡◌, ℕ, suc, ◌+◌, ◌<◌, ◌≤◌, ◌==◌, nat_le, Bool, true, false, not, cond, List, [], ◌∷◌, ◌++◌, length, map, filter, find, Option, Some, None, Ok, Err, option_map, All, refl, sym, ap, ◌∙◌, arith, length-append}
 use Rattle.std.specs.Prelude.{count_by, option_and_then, unwrap_or}
 use Rattle.std.proofs.lemmas.Bool.Decides.{nat_tests}
 use Rattle.std.proofs.lemmas.List.{map-append}
@@ -13,9 +13,9 @@ use Rattle.pc_calls.specs.declared.outcome.Outcome.{Outcome}
 use Rattle.pc_calls.specs.declared.outcome.Outcome.TheVariants.{Done, NoSession, NoVersion, SessionsFull, NoProduct, Stale, ShelvesFull}
 use Rattle.pc_calls.specs.declared.reply.Reply.{Reply}
 use Rattle.pc_calls.specs.Answer.{Answer, ◌>>=◌, ◌>>◌, refused_where, required}
-use Rattle.pc_calls.specs.Heads.{head_by, reply, shown_by, shown_of}
+use Rattle.pc_calls.specs.Heads.{head_by, reply, shown_by}
 use Rattle.pc_calls.specs.Selection.{Selection, free, shown}
-use Rattle.pc_calls.specs.State.{OpenSession, State, Version, current, live_versions, open_sessions, opened_by, is_owned, is_session, session_of, version_in, file_of}
+use Rattle.pc_calls.specs.State.{OpenSession, State, Version, current, live_versions, open_sessions, opened_by, is_owned, is_session, file_of}
 use Rattle.pc_calls.specs.Step.{after, change_numbered, drop_first, given, state_of, with_opened}
 use Rattle.pc_session.specs.Visit.{Visit}
 use Rattle.pc_script.specs.ShopState.{IsPinned, callers_by, on_shelf, owned, state_by}

@@ -2,7 +2,6 @@
 use Rattle.std.specs.Prelude.{ℕ, nat_le, Bool, if◌then◌else◌, List, [], ◌∷◌, ◌++◌, length, codes, decimal}
 use Rattle.pc_base.specs.Lines.{lines}
 use Rattle.pc_file.specs.PrintedForm.{text_of_lines}
-use Rattle.pc_calls.specs.declared.call.Call.{Call}
 use Rattle.pc_calls.specs.declared.call.Call.TheVariants.{Enter}
 use Rattle.pc_calls.specs.Heads.{reply}
 use Rattle.pc_calls.specs.ReplyText.{reply_text}

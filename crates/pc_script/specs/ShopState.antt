@@ -1,10 +1,9 @@
 -- The state of a shop with one caller.
-use Rattle.std.specs.Prelude.{◌≡◌, ℕ, ◌≤◌, Bool, true, false, if◌then◌else◌, List, [], ◌∷◌, map, length, Option, Some, All}
+use Rattle.std.specs.Prelude.{◌≡◌, ℕ, ◌≤◌, Bool, true, if◌then◌else◌, List, [], ◌∷◌, map, length, Some}
 use Rattle.pc_file.specs.Limits.{Contents}
 use Rattle.pc_file.specs.Products.{products, words_of}
 use Rattle.pc_calls.specs.State.{Caller, OpenSession, State, Version, numbered}
 use Rattle.pc_session.specs.Visit.{Visit}
-use Rattle.pc_script.specs.declared.guest.Guest.{Guest}
 
 -- a version that is live
 abbrev pub on_shelf : Contents → Version

@@ -1,12 +1,11 @@
 -- One turn of a script: the next line is heard, with the lines of a text where it announces one, and answered.
-use Rattle.std.specs.Prelude.{◌≡◌, ℕ, ◌≤◌, ◌<◌, Bool, true, false, List, [], ◌∷◌, ◌++◌, length, Option, Some, None, Result, Ok, Err}
+use Rattle.std.specs.Prelude.{◌≡◌, ℕ, ◌≤◌, true, false, List, [], length, Option, Some, None, Result, Ok, Err}
 use Rattle.std.specs.Io.KnownBytes.{append_known}
-use Rattle.pc_base.specs.Lines.{lines}
 use Rattle.pc_base.specs.Rose.{Rose}
 use Rattle.pc_io.specs.declared.line_fault.LineFault.{LineFault}
 use Rattle.pc_io.specs.declared.line_fault.LineFault.TheVariants as line
 use Rattle.pc_io.specs.NextLine.{is_outside_fault}
-use Rattle.pc_io.specs.Took.{Moment, MayCome, Took, Stopped}
+use Rattle.pc_io.specs.Took.{Moment, Took, Stopped}
 use Rattle.pc_io.specs.Told.{GrewByPart}
 use Rattle.pc_calls.specs.State.{State}
 use Rattle.pc_conn.specs.declared.body.Body.{Body}
@@ -17,7 +16,7 @@ use Rattle.pc_script.specs.declared.script_end.ScriptEnd.TheVariants.{Ended, Rea
 use Rattle.pc_script.specs.declared.turn.Next.{Next}
 use Rattle.pc_script.specs.declared.turn.Turn.{Turn}
 use Rattle.pc_script.specs.declared.turn.Turn.TheVariants.{Going, Last}
-use Rattle.pc_script.specs.Script.{Script, commanded, answers, after_lines, last_answers, item_text, item_after}
+use Rattle.pc_script.specs.Script.{commanded, answers, after_lines, last_answers, item_text, item_after}
 
 -- lines were taken that say this, and a command comes next
 pub record SaysNext (state : State) (said : Said) (before after : Moment) : Type 0 where

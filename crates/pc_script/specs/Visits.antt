@@ -1,5 +1,5 @@
 -- The open sessions of one caller, by their numbers.
-use Rattle.std.specs.Prelude.{◌≡◌, ℕ, ◌≤◌, ◌==◌, Bool, true, false, not, List, [], ◌∷◌, ◌++◌, map, filter, find, if◌then◌else◌, option_map, unwrap_or, Option, Some, None, Ok, Err, All}
+use Rattle.std.specs.Prelude.{ℕ, ◌==◌, Bool, List, [], ◌∷◌, find, if◌then◌else◌, Option, Some, None, Ok, Err}
 use Rattle.pc_file.specs.Limits.{Contents}
 use Rattle.pc_calls.specs.declared.head.Head.{Head}
 use Rattle.pc_calls.specs.declared.outcome.Outcome.{Outcome}
@@ -9,7 +9,6 @@ use Rattle.pc_calls.specs.declared.reply.Shown.{Shown}
 use Rattle.pc_diagram.specs.declared.listed.Listed.{Listed}
 use Rattle.pc_calls.specs.Answer.{Answer}
 use Rattle.pc_calls.specs.Selection.{Selection, shown}
-use Rattle.pc_calls.specs.State.{OpenSession}
 use Rattle.pc_session.specs.Visit.{Visit, visit_after}
 
 -- the number of a session

@@ -75,6 +75,13 @@ fn place(sessions: &[Session], number: u64) -> Option<usize>
 }
 
 impl Guest {
+    /// How many sessions are open.
+    pub fn count(&self) -> usize
+        ensures { result ≡ length self.now.sessions.items }
+    {
+        self.sessions.as_slice().len()
+    }
+
     /// Opens a session at a version with its file, which has a product and at most 65,536 words.
     pub fn open(&mut self, version: u64, file: SharedFile) -> Result<Reply, NoMemory>
         requires few { words_of file ≤ 65536 }

@@ -143,7 +143,7 @@ impl Shop {
         if version == 0 {
             return Ok(refused(self.guest.alloc, 0, 0, Outcome::NoVersion));
         }
-        if self.guest.sessions.len() >= MOST_SESSIONS {
+        if self.guest.count() >= MOST_SESSIONS {
             return Ok(refused(self.guest.alloc, 0, 0, Outcome::SessionsFull));
         }
         let Some(file) = self.versions.get(version - 1) else {

@@ -71,7 +71,7 @@ fn heard_call(caller: u64, line: &Line, from: u64) -> Heard
             caller,
             base,
             lines,
-            end_column: line.len() as u64 + 1,
+            end_column: line.as_slice().len() as u64 + 1,
         }),
         Err(wrong) => Heard::Item(Said::Bad {
             caller,
@@ -99,7 +99,7 @@ impl Shop {
         let Some(word) = first_word(line.as_slice(), 0) else {
             return Heard::Item(Said::Bad {
                 caller: 0,
-                column: line.len() as u64 + 1,
+                column: line.as_slice().len() as u64 + 1,
             });
         };
         match self.caller_of(word.bytes) {

@@ -1,4 +1,4 @@
-use Rattle.std.proofs.Common.{◌≡◌, false, true, ap, sym, ◌∙◌, arith, Err}
+use Rattle.std.proofs.Common.{◌≡◌, false, true, ap, arith, Err}
 use Rattle.std.proofs.lemmas.Bool.Decides.{nat_tests}
 use Rattle.std.proofs.lemmas.Result.{err_from_is_err_and}
 use Rattle.pc_script.proofs.ScriptRun.{nothing_answered, script_begins, script_ends, script_finds_none, script_goes_on, script_says_last, script_unanswered, script_unheard}

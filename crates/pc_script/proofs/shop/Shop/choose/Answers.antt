@@ -1,11 +1,11 @@
-use Rattle.std.proofs.Common.{◌≡◌, ◌≤◌, All, sym, ap, ◌∙◌}
-use Rattle.pc_calls.specs.declared.call.Call.TheVariants.{Choose, Retract}
+use Rattle.std.proofs.Common.{◌≤◌, All, sym, ap, ◌∙◌}
+use Rattle.pc_calls.specs.declared.call.Call.TheVariants.{Choose}
 use Rattle.pc_calls.specs.Heads.{reply}
-use Rattle.pc_calls.specs.Selection.{choose, retract}
+use Rattle.pc_calls.specs.Selection.{choose}
 use Rattle.pc_calls.specs.Step.{after}
 use Rattle.pc_script.specs.ShopState.{IsPinned, state_by}
 use Rattle.pc_script.specs.Visits.{reply_among, visits_after}
-use Rattle.pc_script.proofs.ShopCalls.{is_choose, is_retract, own_after, own_reply}
+use Rattle.pc_script.proofs.ShopCalls.{is_choose, own_after, own_reply}
 use Rattle.pc_script.proofs.ShopKeeps.{either_kept, if_ok_to, low_after, on_ok_to, pinned_after}
 use Rattle.pc_script.proofs.shop.Shop.choose.Goals as goal
 
