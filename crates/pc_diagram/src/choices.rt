@@ -1,6 +1,6 @@
 //! Choices of values for variables.
 
-ghost use Rattle.std.specs.Prelude.{◌≡◌, [], ◌∷◌, ◌++◌, false, IsTrue, OnOk, OnErr};
+ghost use Rattle.std.specs.Prelude.{◌≡◌, [], ◌∷◌, ◌++◌, false, IsTrue, IfOk, OnOk, OnErr};
 ghost use Rattle.pc_diagram.specs.Choices.{is_chosen, value_of, without, are_distinct};
 
 use crate::choice::Choice;
@@ -76,5 +76,27 @@ impl Choices {
         ensures { self.new ≡ without self.old variable }
     {
         self.items.retain(|choice| choice.variable != variable);
+    }
+
+    /// These choices, with one more at the end, of a variable that isn't chosen.
+    #[tactic(auto, using(crate::proofs::ChoiceLemmas::distinct_steps))]
+    pub fn with(&self, alloc: Global, variable: u32, value: u32) -> Result<Choices, NoMemory>
+        requires { is_chosen self.now variable ≡ false }
+        ensures { IfOk result (λ choices. choices ≡ self.now ++ record { variable = variable; value = value } ∷ []) }
+    {
+        let mut items = Vec::from_slice(alloc, self.items.as_slice())?;
+        items.push(Choice { variable, value })?;
+        Ok(Choices { items })
+    }
+
+    /// These choices without that of a variable, if it is chosen.
+    pub fn without(&self, alloc: Global, variable: u32) -> Result<Choices, NoMemory>
+        ensures { IfOk result (λ choices. choices ≡ without self.now variable) }
+    {
+        let mut choices = Choices {
+            items: Vec::from_slice(alloc, self.items.as_slice())?,
+        };
+        choices.retract(variable);
+        Ok(choices)
     }
 }

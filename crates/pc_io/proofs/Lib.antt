@@ -4,5 +4,6 @@ pub mod LinesTaken
 pub mod Pieces
 pub mod PlannedFaults
 pub mod ReadingKept
+pub mod TookLemmas
 pub mod WholeRead
 pub mod Worked

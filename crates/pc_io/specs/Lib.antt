@@ -1,9 +1,11 @@
 pub mod Aside
 pub mod Calls
 pub mod Cutter
+pub mod Ends
 pub mod Held
 pub mod Limits
 pub mod Memory
 pub mod NextLine
 pub mod Reached
 pub mod Told
+pub mod Took

@@ -8,7 +8,8 @@ use Rattle.pc_text.specs.Spells.{Spells}
 use Rattle.pc_top.specs.declared.list_reply.Reply.{Reply}
 use Rattle.pc_top.specs.declared.status.Status.{Status}
 use Rattle.pc_top.specs.declared.status.Status.TheVariants.{Done, WrongWords, Refused, ReadFault, WriteFault, NoMemory, TooLong}
-use Rattle.pc_top.specs.ListOutcome.{Ends, AnswersText, Leaves}
+use Rattle.pc_io.specs.Ends.{Ends}
+use Rattle.pc_top.specs.ListOutcome.{AnswersText, Leaves}
 use Rattle.pc_top.specs.ListReply.{list_reply, listed, listing_reply, refused_no_product}
 use Rattle.pc_top.specs.Reply.{Is}
 use Rattle.pc_top.specs.Means.{Means}

@@ -2,6 +2,7 @@
 use Rattle.std.specs.Prelude.{◌≡◌, ℕ, Bool, true, false, List, Option, Some, None, IsSome, IfSome}
 use Rattle.std.specs.Io.KnownBytes.{IsAtEnd, append_known, prepend_known}
 use Rattle.pc_base.specs.Rose.{Rose}
+use Rattle.pc_io.specs.Ends.{Ends}
 use Rattle.pc_io.specs.Limits.{broken_limit}
 use Rattle.pc_io.specs.declared.line_fault.LineFault.{LineFault}
 use Rattle.pc_io.specs.Told.{GrewByPart}
@@ -14,13 +15,6 @@ use Rattle.pc_top.specs.ListReply.{list_reply}
 -- the limit that a product text breaks: 65,536 bytes a line, 1,048,576 in all
 abbrev pub broken : List ℕ → Option LineFault
 broken text = broken_limit 65536 1048576 text
-
--- what is seen of a source and of a sink at one moment
-pub record Ends : Type 0 where
-  pub rest : Option (List ℕ)
-  pub read_faults : ℕ
-  pub written : Option (List ℕ)
-  pub write_faults : ℕ
 
 -- a text was read to its end
 pub record ReadsAll (text : List ℕ) (before after : Ends) : Type 0 where

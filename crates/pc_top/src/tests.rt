@@ -183,7 +183,8 @@ fn other_words_are_wrong(rt: HostRuntime) -> Result<(), Fail> {
         b"--help",
         b"lists",
         b"LIST",
-        b"script",
+        b"script now",
+        b"scripts",
     ] {
         let ran = run_with(alloc, line, TINY, AMPLE, &[], &[])?;
         assert_eq!(rt; ran.status, 2);
@@ -252,6 +253,46 @@ fn a_line_of_the_longest_length_is_read(rt: HostRuntime) -> Result<(), Fail> {
         line.push(b'\n')?;
         let ran = list_of(alloc, tiny_with(alloc, line.as_slice())?.as_slice())?;
         assert_eq!(rt; ran.status, status);
+    }
+    Ok(())
+}
+
+/// A caller publishes a text of one value, opens a session, shows and closes it, and leaves.
+const VISIT: &[u8] =
+    b"1 publish 0 5\nproduct 1\ncost price\nvariable kind\nvalue only 7\nend\n1 open\n1 show 1\n1 close 1\n1 leave\n1 open\n";
+
+const VISITED: &[u8] =
+    b"caller 1\nok 0 1\n.\ncaller 1\nok 1 1\nvar kind\nval only 7 0 : only\n.\ncaller 1\nok 1 1\nvar kind\nval only 7 0 : only\n.\ncaller 1\nok 1 1\n.\ncaller 1\nok 0 0\n.\ncaller 0\nbad 1\n.\n";
+
+#[test]
+fn a_visit_is_answered_line_by_line(rt: HostRuntime) -> Result<(), Fail> {
+    let alloc = rt.alloc();
+    let ran = run_with(alloc, b"script", VISIT, AMPLE, &[], &[])?;
+    assert_eq!(rt; ran.status, 0);
+    assert_eq!(rt; ran.written.as_slice(), VISITED);
+    let wrong = run_with(alloc, b"script", b"1 show 01\n\n3 open", AMPLE, &[], &[])?;
+    assert_eq!(rt; wrong.status, 0);
+    assert_eq!(rt;
+        wrong.written.as_slice(),
+        b"caller 1\nbad 8\n.\ncaller 0\nbad 1\n.\ncaller 0\nbad 1\n.\n".as_slice()
+    );
+    Ok(())
+}
+
+/// What six writes of a visit leave where the next one fails.
+const WRITTEN: [usize; 6] = [0, 18, 65, 112, 130, 148];
+
+#[test]
+fn a_visit_whose_ends_fail_stops_there(rt: HostRuntime) -> Result<(), Fail> {
+    let alloc = rt.alloc();
+    for failing in 0..2u64 {
+        let unread = run_with(alloc, b"script", VISIT, AMPLE, &[failing], &[])?;
+        assert_eq!(rt; unread.status, 4);
+    }
+    for (failing, written) in WRITTEN.iter().enumerate() {
+        let unwritten = run_with(alloc, b"script", VISIT, AMPLE, &[], &[failing as u64])?;
+        assert_eq!(rt; unwritten.status, 5);
+        assert_eq!(rt; unwritten.written.as_slice(), &VISITED[..*written]);
     }
     Ok(())
 }

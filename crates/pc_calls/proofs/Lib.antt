@@ -1,0 +1,5 @@
+pub mod LineWordLemmas
+pub mod TableLemmas
+pub mod KindLemmas
+pub mod WordsSaid
+pub mod Crossing

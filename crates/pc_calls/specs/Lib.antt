@@ -1,0 +1,13 @@
+pub mod Answer
+pub mod CallWords
+pub mod CommandLine
+pub mod CommandReader
+pub mod CommandTable
+pub mod CommandTold
+pub mod Heads
+pub mod History
+pub mod LineWords
+pub mod ReplyText
+pub mod Selection
+pub mod State
+pub mod Step

@@ -1,0 +1,122 @@
+-- What each call does to the state, or the first of its refusals that stands. A refused call leaves the state.
+use Rattle.std.specs.Prelude.{ℕ, zero, suc, ◌==◌, ◌+◌, nat_le, Bool, true, false, not, if◌then◌else◌, List, [], ◌∷◌, ◌++◌, filter, length, Option, Some, None, Ok, Err}
+use Rattle.pc_file.specs.Limits.{Contents}
+use Rattle.pc_file.specs.Products.{products}
+use Rattle.pc_calls.specs.declared.call.Call.{Call}
+use Rattle.pc_calls.specs.declared.call.Call.TheVariants.{Enter, Open, Show, Choose, Retract, Close, Publish, Leave}
+use Rattle.pc_calls.specs.declared.outcome.Outcome.{Outcome}
+use Rattle.pc_calls.specs.declared.outcome.Outcome.TheVariants.{Done, NoSession, NoVersion, SessionsFull, NoProduct, Stale, ShelvesFull}
+use Rattle.pc_calls.specs.Answer.{Answer, ◌>>=◌, ◌>>◌, required, refused_where}
+use Rattle.pc_calls.specs.Selection.{Selection, free, show, choose, retract}
+use Rattle.pc_calls.specs.State.{Version, Caller, OpenSession, State, current, live_versions, file_of, opened_by, is_owned, is_session, session_of, open_sessions}
+
+-- a caller may have so many open sessions, and so many versions may be live
+abbrev pub most_sessions : ℕ
+most_sessions = 64
+
+abbrev pub most_live : ℕ
+most_live = 32
+
+-- the item of a number, counted from 1, changed
+abbrev pub change_numbered : {A : Type 0} → (A → A) → List A → ℕ → List A
+change_numbered change [] number = []
+change_numbered change (x ∷ xs) zero = x ∷ xs
+change_numbered change (x ∷ xs) (suc zero) = change x ∷ xs
+change_numbered change (x ∷ xs) (suc (suc place)) = x ∷ change_numbered change xs (suc place)
+
+-- a new caller
+abbrev pub newcomer : Caller
+newcomer = record { opened = 0; left = false }
+
+-- the caller has opened one more session
+abbrev pub with_opened : Caller → Caller
+with_opened caller = record { opened = caller.opened + 1; left = caller.left }
+
+-- the caller makes no more calls
+abbrev pub gone : Caller → Caller
+gone caller = record { opened = caller.opened; left = true }
+
+-- the session asks something else
+abbrev pub asking : Selection → OpenSession → OpenSession
+asking selection session = record { owner = session.owner; number = session.number; version = session.version; selection = selection }
+
+-- enter: the next caller number
+abbrev pub enter : State → Answer State
+enter state = Ok (record { versions = state.versions; callers = state.callers ++ newcomer ∷ []; sessions = state.sessions })
+
+-- open: the caller's next session, at the current version, without choices and bounds
+abbrev pub open_session : ℕ → State → Answer State
+open_session caller state = do
+  refused_where (current state == 0) NoVersion
+  refused_where (nat_le most_sessions (open_sessions state caller)) SessionsFull
+  Ok (record {
+    versions = state.versions;
+    callers = change_numbered with_opened state.callers caller;
+    sessions = state.sessions ++ record { owner = caller; number = opened_by state caller + 1; version = current state; selection = free } ∷ []
+  })
+
+-- the first session that a test finds, changed
+abbrev pub change_first : (OpenSession → Bool) → (OpenSession → OpenSession) → List OpenSession → List OpenSession
+change_first is change [] = []
+change_first is change (session ∷ sessions) = if is session then change session ∷ sessions else session ∷ change_first is change sessions
+
+-- a caller's session of a number asks something else
+abbrev pub with_selection : ℕ → ℕ → Selection → State → State
+with_selection caller number selection state =
+    record { versions = state.versions; callers = state.callers; sessions = change_first (is_session caller number) (asking selection) state.sessions }
+
+-- a call that is a session's own: what it asks after the call, over the file of its version
+abbrev pub in_session : ℕ → ℕ → (Contents → Selection → Answer Selection) → State → Answer State
+in_session caller number ask state = do
+  session ← required (session_of state caller number) NoSession
+  file ← required (file_of state session.version) NoSession
+  selection ← ask file session.selection
+  Ok (with_selection caller number selection state)
+
+-- the sessions without the first that a test finds
+abbrev pub drop_first : (OpenSession → Bool) → List OpenSession → List OpenSession
+drop_first is [] = []
+drop_first is (session ∷ sessions) = if is session then sessions else session ∷ drop_first is sessions
+
+-- close: the session ends
+abbrev pub close : ℕ → ℕ → State → Answer State
+close caller number state = do
+  session ← required (session_of state caller number) NoSession
+  Ok (record { versions = state.versions; callers = state.callers; sessions = drop_first (is_session caller number) state.sessions })
+
+-- publish: the file is the next version, live and current
+abbrev pub publish : ℕ → Contents → State → Answer State
+publish base file state = do
+  refused_where (length (products file) == 0) NoProduct
+  refused_where (not (base == current state)) (Stale (current state))
+  refused_where (nat_le most_live (live_versions state)) ShelvesFull
+  Ok (record { versions = state.versions ++ record { file = file; live = true } ∷ []; callers = state.callers; sessions = state.sessions })
+
+-- leave: the caller's sessions end, and it makes no more calls
+abbrev pub leave : ℕ → State → Answer State
+leave caller state =
+    Ok (record { versions = state.versions; callers = change_numbered gone state.callers caller; sessions = filter (λ s. not (is_owned caller s)) state.sessions })
+
+-- What a caller's call gives. Calls that nobody can make yet change nothing; each gets its row with what answers it.
+abbrev pub given : ℕ → Call → State → Answer State
+given caller Enter state = enter state
+given caller Open state = open_session caller state
+given caller (Show session) state = in_session caller session show state
+given caller (Choose session variable value) state = in_session caller session (choose variable value) state
+given caller (Retract session variable) state = in_session caller session (retract variable) state
+given caller (Close session) state = close caller session state
+given caller (Publish base file) state = publish base file state
+given caller Leave state = leave caller state
+given caller call state = Ok state
+
+abbrev pub outcome_of : Answer State → Outcome
+outcome_of (Ok state) = Done
+outcome_of (Err refusal) = refusal
+
+abbrev pub state_of : State → Answer State → State
+state_of before (Ok state) = state
+state_of before (Err refusal) = before
+
+-- the state after a caller's call
+abbrev pub after : ℕ → Call → State → State
+after caller call state = state_of state (given caller call state)

@@ -1,0 +1,44 @@
+//! The calls of the configurator, what each entry of its history says, and the replies: their types, the reading of
+//! a command line and the writing of a reply. A line is read exactly as its words say, or the column of the first
+//! wrong word is told; a reply is written exactly as its definition says.
+#![tactic(auto)]
+
+mod bad_column;
+mod call;
+mod command;
+mod dropped;
+mod entry;
+mod head;
+mod head_text;
+mod kinds;
+mod line_call;
+mod line_words;
+mod live;
+mod outcome;
+mod placed_word;
+mod reading;
+mod reply;
+mod shared_file;
+mod words_left;
+mod writing;
+
+pub use bad_column::BadColumn;
+pub use call::Call;
+pub use command::Command;
+pub use dropped::{DropList, Dropped};
+pub use entry::Entry;
+pub use head::Head;
+pub use head_text::write_head;
+pub use kinds::unsigned;
+pub use line_call::LineCall;
+pub use line_words::first_word;
+pub use live::{Live, LiveList};
+pub use outcome::Outcome;
+pub use placed_word::PlacedWord;
+pub use reading::read_call;
+pub use reply::{Reply, Shown};
+pub use shared_file::SharedFile;
+pub use writing::write_reply;
+
+#[cfg(test)]
+mod tests;

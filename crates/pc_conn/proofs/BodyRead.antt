@@ -1,0 +1,141 @@
+-- What reading the text of a publish keeps from line to line.
+use Rattle.std.proofs.Common.{◌≡◌, ℕ, ◌+◌, ◌<◌, ◌≤◌, ◌||◌, Bool, true, false, List, [], ◌∷◌, ◌++◌, length, Option, Some, None, Ok, Err, IsTrue, IfSome, refl, sym, ap, ◌∙◌, arith, length-append, append_assoc}
+use Rattle.std.specs.List.{list_any, flat_map}
+use Rattle.std.specs.Io.KnownBytes.{IsAtEnd, prepend_known}
+use Rattle.std.proofs.lemmas.Bool.{both_ways, false_from_ne_true}
+use Rattle.std.proofs.lemmas.List.{append-nil}
+use Rattle.pc_base.specs.Lines.{HasNoFeed, is_feed}
+use Rattle.pc_io.specs.declared.line_fault.LineFault.{LineFault}
+use Rattle.pc_io.specs.declared.line_fault.LineFault.TheVariants.{ReadFault}
+use Rattle.pc_io.specs.Aside.{Aside}
+use Rattle.pc_io.specs.Cutter.{Cutter, left_to_give, stream}
+use Rattle.pc_io.specs.NextLine.{answer_to, is_outside_fault, taken}
+use Rattle.pc_io.specs.Took.{Moment, Took, Stopped}
+use Rattle.pc_io.proofs.TookLemmas.{took_nothing, took_line, took_both, stopped_at}
+use Rattle.pc_file.specs.PrintedForm.{with_feed, text_of_lines}
+use Rattle.pc_file.specs.Limits.{Contents}
+use Rattle.pc_rules.specs.declared.kind.Kind.{Kind}
+use Rattle.pc_text.specs.Crowded.{crowded_line, is_crowded}
+use Rattle.pc_text.specs.FirstFault.{first_fault, given_by}
+use Rattle.pc_text.specs.Given.{contents_given}
+use Rattle.pc_conn.specs.declared.body.Body.{Body}
+use Rattle.pc_conn.specs.declared.body.Body.TheVariants.{File, Fault, NotBuilt, Cut}
+use Rattle.pc_conn.specs.BodyText.{body_of, body_by, sound_body}
+use Rattle.pc_conn.specs.Reading.{IsStopped, IsCut, GivesBody, ReadsBody}
+
+-- so far so many lines were taken, and with a line feed each they are the text
+pub record BodySoFar (count n : ℕ) (text : List ℕ) (first : Cutter) (rest_then : Option (List ℕ)) (l : Cutter) (rest : Option (List ℕ)) (faults_then faults : ℕ) (aside_then aside : Aside) : Type 0 where
+  pub lines : List (List ℕ)
+  pub bytes : List ℕ
+  pub took : Took lines bytes (record { cutter = first; rest = rest_then }) (record { cutter = l; rest = rest })
+  pub size : length lines ≡ n
+  pub below : n ≤ count
+  pub text_is : text ≡ text_of_lines lines
+  pub no_fault : l.fault ≡ None
+  pub at_end : IsTrue l.ended → IsAtEnd rest
+  pub none_kept : IsTrue l.ended → l.kept ≡ []
+  pub within : first.given ≤ first.total_limit → l.given ≤ l.total_limit
+  pub stays_ended : IsTrue first.ended → IsTrue l.ended
+  pub calm : IsTrue first.ended → l.given ≡ first.given
+  pub counted : faults_then ≤ faults
+  pub same_aside : aside ≡ aside_then
+
+pub body_begins : (count : ℕ) (l : Cutter) (rest : Option (List ℕ)) (faults : ℕ) (aside : Aside) → l.fault ≡ None → (IsTrue l.ended → IsAtEnd rest) → (IsTrue l.ended → l.kept ≡ []) → BodySoFar count 0 [] l rest l rest faults faults aside aside
+body_begins count l rest faults aside sound at_end none_kept = record {
+  lines = [];
+  bytes = [];
+  took = took_nothing (record { cutter = l; rest = rest });
+  size = refl;
+  below = omega arith;
+  text_is = refl;
+  no_fault = sound;
+  at_end = at_end;
+  none_kept = none_kept;
+  within = λ h. h;
+  stays_ended = λ h. h;
+  calm = λ h. refl;
+  counted = omega arith;
+  same_aside = refl;
+}
+
+text-more : (lines : List (List ℕ)) (line : List ℕ) → text_of_lines (lines ++ line ∷ []) ≡ text_of_lines lines ++ (line ++ 10 ∷ [])
+text-more [] line = append-nil (line ++ 10 ∷ [])
+text-more (x ∷ xs) line = ap (λ (t : List ℕ). with_feed x ++ t) (text-more xs line) ∙ sym (append_assoc (with_feed x) (text_of_lines xs) (line ++ 10 ∷ []))
+
+-- one more line
+pub body_goes_on : (count n : ℕ) (text line : List ℕ) (first : Cutter) (rest_then : Option (List ℕ)) (l : Cutter) (rest : Option (List ℕ)) (m : Cutter) (mid : Option (List ℕ)) (faults_then faults counted : ℕ) (aside_then aside kept : Aside)
+    → BodySoFar count n text first rest_then l rest faults_then faults aside_then aside
+    → n < count
+    → l.ended ≡ false
+    → stream l rest ≡ prepend_known (taken (Ok (Some line)) m.ended) (stream m mid)
+    → m.given ≡ l.given + length (taken (Ok (Some line)) m.ended)
+    → HasNoFeed line × (length line ≤ l.line_limit)
+    → l.given < m.given
+    → m.given ≤ m.total_limit
+    → (m.line_limit ≡ l.line_limit) × (m.total_limit ≡ l.total_limit)
+    → (IsTrue m.ended → m.kept ≡ [])
+    → (IsTrue m.ended → IsAtEnd mid)
+    → m.fault ≡ None
+    → faults ≤ counted → kept ≡ aside
+    → BodySoFar count (n + 1) ((text ++ line) ++ 10 ∷ []) first rest_then m mid faults_then counted aside_then kept
+body_goes_on count n text line first rest_then l rest m mid faults_then faults counted aside_then aside kept before room going read given fits rises within limits last at_end told count_ same = record {
+  lines = before.lines ++ line ∷ [];
+  bytes = before.bytes ++ taken (Ok (Some line)) m.ended;
+  took = took_both before.lines (line ∷ []) before.bytes (taken (Ok (Some line)) m.ended) (record { cutter = first; rest = rest_then }) (record { cutter = l; rest = rest }) (record { cutter = m; rest = mid }) going before.took (took_line line l m rest mid read given fits rises within limits);
+  size = omega (arith, before.size, length-append before.lines (line ∷ []));
+  below = omega (arith, room);
+  text_is = append_assoc text line (10 ∷ []) ∙ ap (λ (t : List ℕ). t ++ (line ++ 10 ∷ [])) before.text_is ∙ sym (text-more before.lines line);
+  no_fault = told;
+  at_end = at_end;
+  none_kept = last;
+  within = λ h. within;
+  stays_ended = λ h. absurd (both_ways l.ended going (before.stays_ended h));
+  calm = λ h. absurd (both_ways l.ended going (before.stays_ended h));
+  counted = omega (arith, count_, before.counted);
+  same_aside = same ∙ before.same_aside;
+}
+
+-- a text is never cut
+sound-not_cut : (crowded : Bool) (line : Option ℕ) (file : Contents) → Cut ≡ sound_body crowded line file → ⊥
+sound-not_cut true line file e = cc
+sound-not_cut false line file e = cc
+
+by-not_cut : (fault : Option (ℕ × Kind)) (crowded : Bool) (line : Option ℕ) (file : Contents) → Cut ≡ body_by fault (sound_body crowded line file) → ⊥
+by-not_cut None crowded line file e = sound-not_cut crowded line file e
+by-not_cut (Some fault) crowded line file e = cc
+
+not_cut : (text : List ℕ) → Cut ≡ body_of text → ⊥
+unfolding body_of
+not_cut text e = by-not_cut (first_fault text) (is_crowded (given_by text)) (crowded_line text) (contents_given (given_by text)) e
+
+reads_by : (count : ℕ) (body : Body) (text : List ℕ) (before after : Moment) → body ≡ body_of text → GivesBody count body before after → ReadsBody count (Ok body) before after
+reads_by count (File file) text before after e gives = gives
+reads_by count (Fault line kind) text before after e gives = gives
+reads_by count (NotBuilt line) text before after e gives = gives
+reads_by count Cut text before after e gives = absurd (not_cut text e)
+
+-- all lines were taken, and their text was read
+pub body_read : (count n : ℕ) (text : List ℕ) (first : Cutter) (rest_then : Option (List ℕ)) (l : Cutter) (rest : Option (List ℕ)) (faults_then faults : ℕ) (aside_then aside : Aside) (body : Body)
+    → BodySoFar count n text first rest_then l rest faults_then faults aside_then aside → count ≤ n → body ≡ body_of text
+    → ReadsBody count (Ok body) (record { cutter = first; rest = rest_then }) (record { cutter = l; rest = rest })
+body_read count n text first rest_then l rest faults_then faults aside_then aside body so_far all is =
+    reads_by count body text (record { cutter = first; rest = rest_then }) (record { cutter = l; rest = rest }) is
+    (record { taken = so_far.lines; bytes = so_far.bytes; took = so_far.took; all = omega (arith, so_far.size, so_far.below, all); gives = is ∙ ap body_of so_far.text_is })
+
+-- fewer lines were taken, and the next one can't be
+pub body_stopped : (count n : ℕ) (text : List ℕ) (first : Cutter) (rest_then : Option (List ℕ)) (l : Cutter) (rest : Option (List ℕ)) (m : Cutter) (mid : Option (List ℕ)) (faults_then faults : ℕ) (aside_then aside : Aside) (fault : LineFault)
+    → BodySoFar count n text first rest_then l rest faults_then faults aside_then aside → n < count
+    → l.ended ≡ false
+    → (is_outside_fault fault ≡ false → IfSome (stream l rest) (λ b. Err fault ≡ answer_to l.line_limit (left_to_give l) b))
+    → stream l rest ≡ prepend_known [] (stream m mid)
+    → (fault ≡ ReadFault → HasNoFeed m.kept)
+    → IsStopped count fault (record { cutter = first; rest = rest_then }) (record { cutter = m; rest = mid })
+body_stopped count n text first rest_then l rest m mid faults_then faults aside_then aside fault so_far room going exact read kept = record {
+  taken = so_far.lines;
+  bytes = so_far.bytes;
+  at = record { cutter = l; rest = rest };
+  took = so_far.took;
+  going = false_from_ne_true first.ended (λ h. absurd (both_ways l.ended going (so_far.stays_ended h)));
+  fewer = omega (arith, so_far.size, room);
+  stopped = stopped_at fault l m rest mid going exact read kept;
+}

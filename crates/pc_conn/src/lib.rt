@@ -1,0 +1,16 @@
+//! The bytes of a conversation: what the lines that a caller sends say, what they are answered where they stand for
+//! no call, and the reading of the text that follows a publish. The text gives the file that it spells, the first
+//! fault that stands in it, or nothing where the input ends before it does.
+#![tactic(auto)]
+
+mod answers;
+mod body;
+mod body_fault;
+mod body_text;
+mod reading;
+
+pub use answers::{push_bad, push_fault, push_not_built};
+pub use body::Body;
+pub use body_fault::BodyFault;
+pub use reading::read_body;
+

@@ -1,0 +1,9 @@
+pub mod AnswerLemmas
+pub mod Bodies
+pub mod HeardNext
+pub mod MadeCalls
+pub mod Places
+pub mod ScriptRun
+pub mod ShopCalls
+pub mod ShopKeeps
+pub mod ShopSteps

@@ -1,0 +1,29 @@
+-- The state of a shop with one caller.
+use Rattle.std.specs.Prelude.{◌≡◌, ℕ, ◌≤◌, Bool, true, if◌then◌else◌, List, [], ◌∷◌, map, length, Some}
+use Rattle.pc_file.specs.Limits.{Contents}
+use Rattle.pc_file.specs.Products.{products, words_of}
+use Rattle.pc_calls.specs.State.{Caller, OpenSession, State, Version, numbered}
+use Rattle.pc_session.specs.Visit.{Visit}
+
+-- a version that is live
+abbrev pub on_shelf : Contents → Version
+on_shelf file = record { file = file; live = true }
+
+-- a session of the one caller
+abbrev pub owned : Visit → OpenSession
+owned visit = record { owner = 1; number = visit.number; version = visit.version; selection = visit.selection }
+
+-- the caller, once it has entered
+abbrev pub callers_by : Bool → Bool → ℕ → List Caller
+callers_by entered left opened = if entered then record { opened = opened; left = left } ∷ [] else []
+
+abbrev pub state_by : List Contents → Bool → Bool → ℕ → List Visit → State
+state_by files entered left opened visits = record { versions = map on_shelf files; callers = callers_by entered left opened; sessions = map owned visits }
+
+-- a file on the shelf has a product and few enough words for the plain list
+abbrev pub IsShelved : Contents → Type 0
+IsShelved file = (words_of file ≤ 65536) × (1 ≤ length (products file))
+
+-- the file of a session is that of its version
+abbrev pub IsPinned : List Contents → Visit → Type 0
+IsPinned files visit = numbered files visit.version ≡ Some visit.file

@@ -1,0 +1,172 @@
+//! A caller's open sessions.
+
+ghost use Rattle.std.specs.Prelude.{◌≡◌, ◌==◌, ◌<◌, ◌≤◌, ◌+◌, ◌^◌, ◌++◌, ◌∷◌, [], not, filter, length, position, find, IfOk, OnOk, OnErr, IfSome, Some, None, Ok, Err};
+ghost use Rattle.pc_calls.specs.declared.outcome.Outcome.TheVariants.{Done};
+ghost use Rattle.pc_calls.specs.Selection.{choose, free, retract, show, shown};
+ghost use Rattle.pc_file.specs.Products.{products, words_of};
+ghost use Rattle.pc_script.specs.Visits.{has_number, no_session_reply, plain_head, close_reply, reply_among, shown_with, visits_after, without_number};
+
+use pc_base::{NoMemory, Sequence};
+use pc_calls::{Head, Outcome, Reply, SharedFile, Shown};
+use pc_diagram::Listing;
+use pc_names::Name;
+use pc_session::{Answer, Session};
+use std::alloc::Global;
+
+/// The sessions that a caller has open, in the order in which they were opened, and how many it has opened.
+#[derive(Debug, Drop)]
+pub struct Guest {
+    pub alloc: Global,
+    pub opened: u64,
+    pub sessions: Vec<Session>,
+}
+
+/// A head that lists nothing.
+pub fn plain_head(alloc: Global, session: u64, version: u64, outcome: Outcome) -> Head
+    ensures { result ≡ plain_head session version outcome }
+{
+    Head {
+        session,
+        version,
+        outcome,
+        live: Sequence::new(alloc),
+        dropped: Sequence::new(alloc),
+    }
+}
+
+/// The reply to a call that was refused.
+pub fn refused(alloc: Global, session: u64, version: u64, refusal: Outcome) -> Reply
+    ensures { result ≡ record { head = plain_head session version refusal; shown = None } }
+{
+    Reply {
+        head: plain_head(alloc, session, version, refusal),
+        shown: None,
+    }
+}
+
+/// A file with a listing, where there is one.
+fn shown_with(file: SharedFile, listing: Option<Listing>) -> Option<Shown>
+    ensures { result ≡ shown_with file listing }
+{
+    match listing {
+        Some(listing) => Some(Shown { file, listing }),
+        None => None,
+    }
+}
+
+/// The reply to what a session with this file answered.
+fn replied(alloc: Global, session: &Session, file: SharedFile, answer: Answer) -> Reply
+    requires { file ≡ session.now.file }
+    ensures { result ≡ record { head = plain_head session.now.number session.now.version answer.outcome; shown = shown_with session.now.file answer.listing } }
+{
+    Reply {
+        head: plain_head(alloc, session.number(), session.version(), answer.outcome),
+        shown: shown_with(file, answer.listing),
+    }
+}
+
+/// Where the session of a number stands.
+fn place(sessions: &[Session], number: u64) -> Option<usize>
+    ensures { result ≡ position (has_number number) sessions.now }
+{
+    sessions
+        .iter()
+        .position(|session| session.number() == number)
+}
+
+impl Guest {
+    /// How many sessions are open.
+    pub fn count(&self) -> usize
+        ensures { result ≡ length self.now.sessions.items }
+    {
+        self.sessions.as_slice().len()
+    }
+
+    /// Opens a session at a version with its file, which has a product and at most 65,536 words.
+    pub fn open(&mut self, version: u64, file: SharedFile) -> Result<Reply, NoMemory>
+        requires few { words_of file ≤ 65536 }
+        requires product { 1 ≤ length (products file) }
+        requires room { self.old.opened < 2 ^ 63 }
+        ensures reply { IfOk result (λ reply. reply ≡ record { head = plain_head (self.old.opened + 1) version Done; shown = Some (record { file = file; listing = shown file free }) }) }
+        ensures sessions { OnOk result (self.new.sessions.items ≡ self.old.sessions.items ++ record { number = self.old.opened + 1; version = version; file = file; selection = free } ∷ []) }
+        ensures opened { OnOk result (self.new.opened ≡ self.old.opened + 1) }
+        ensures kept { OnErr result ((self.new.sessions.items ≡ self.old.sessions.items) × (self.new.opened ≡ self.old.opened)) }
+    {
+        let number = self.opened + 1;
+        let (session, listing) = Session::start(self.alloc, number, file, version)?;
+        let shown = Shown {
+            file: session.file().share()?,
+            listing,
+        };
+        self.sessions.push(session)?;
+        self.opened = number;
+        Ok(Reply {
+            head: plain_head(self.alloc, number, version, Outcome::Done),
+            shown: Some(shown),
+        })
+    }
+
+    /// The listing of a session.
+    pub fn show(&self, number: u64) -> Result<Reply, NoMemory>
+        ensures { IfOk result (λ reply. reply ≡ reply_among number show self.now.sessions.items) }
+    {
+        let Some(place) = place(self.sessions.as_slice(), number) else {
+            return Ok(refused(self.alloc, number, 0, Outcome::NoSession));
+        };
+        let session = &self.sessions[place];
+        let file = session.file().share()?;
+        let answer = Answer {
+            outcome: Outcome::Done,
+            listing: Some(session.show()?),
+        };
+        Ok(replied(self.alloc, session, file, answer))
+    }
+
+    /// Chooses a value in a session.
+    pub fn choose(&mut self, number: u64, variable: &Name, value: &Name) -> Result<Reply, NoMemory>
+        ensures reply { IfOk result (λ reply. reply ≡ reply_among number (choose variable.now value.now) self.old.sessions.items) }
+        ensures sessions { OnOk result (self.new.sessions.items ≡ visits_after number (choose variable.now value.now) self.old.sessions.items) }
+        ensures kept { OnErr result (self.new.sessions.items ≡ self.old.sessions.items) }
+        ensures opened { self.new.opened ≡ self.old.opened }
+    {
+        let Some(place) = place(self.sessions.as_slice(), number) else {
+            return Ok(refused(self.alloc, number, 0, Outcome::NoSession));
+        };
+        let session = &mut self.sessions[place];
+        let file = session.file().share()?;
+        let answer = session.choose(variable, value)?;
+        Ok(replied(self.alloc, session, file, answer))
+    }
+
+    /// Takes back a choice in a session.
+    pub fn retract(&mut self, number: u64, variable: &Name) -> Result<Reply, NoMemory>
+        ensures reply { IfOk result (λ reply. reply ≡ reply_among number (retract variable.now) self.old.sessions.items) }
+        ensures sessions { OnOk result (self.new.sessions.items ≡ visits_after number (retract variable.now) self.old.sessions.items) }
+        ensures kept { OnErr result (self.new.sessions.items ≡ self.old.sessions.items) }
+        ensures opened { self.new.opened ≡ self.old.opened }
+    {
+        let Some(place) = place(self.sessions.as_slice(), number) else {
+            return Ok(refused(self.alloc, number, 0, Outcome::NoSession));
+        };
+        let session = &mut self.sessions[place];
+        let file = session.file().share()?;
+        let answer = session.retract(variable)?;
+        Ok(replied(self.alloc, session, file, answer))
+    }
+
+    /// Ends a session.
+    pub fn close(&mut self, number: u64) -> Reply
+        ensures reply { result ≡ close_reply number (find (has_number number) self.old.sessions.items) }
+        ensures sessions { self.new.sessions.items ≡ without_number number self.old.sessions.items }
+        ensures opened { self.new.opened ≡ self.old.opened }
+    {
+        let Some(place) = place(self.sessions.as_slice(), number) else {
+            return refused(self.alloc, number, 0, Outcome::NoSession);
+        };
+        let session = self.sessions.remove(place);
+        Reply {
+            head: plain_head(self.alloc, number, session.version(), Outcome::Done),
+            shown: None,
+        }
+    }
+}

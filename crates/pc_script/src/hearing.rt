@@ -1,0 +1,66 @@
+//! Hearing what is said next.
+
+ghost use Rattle.std.specs.Prelude.{◌≡◌, ◌≤◌, ◌<◌, ◌+◌, false, [], None, Err, OnOk, IfOk, IfSome, IsTrue};
+ghost use Rattle.std.specs.Io.KnownBytes.{IsAtEnd};
+ghost use Rattle.pc_base.specs.Rose.{Rose};
+ghost use Rattle.pc_script.specs.Made.{IsMade};
+ghost use Rattle.pc_script.specs.Turns.{Hears, turn_after};
+ghost use Rattle.pc_script.specs.declared.script_end.ScriptEnd.TheVariants.{ReadFault};
+
+use crate::item::Heard;
+use crate::script_end::ScriptEnd;
+use crate::shop::Shop;
+use crate::turn::{Next, Turn};
+use pc_conn::{Body, read_body};
+use pc_io::{Lines, Source};
+use std::alloc::Global;
+
+/// What the next line says, with the lines of a text where it announces one. `None` where no line is left.
+pub fn hear_next<S: Source>(
+    alloc: Global,
+    shop: &Shop,
+    lines: &mut Lines,
+    source: &mut S,
+) -> Result<Option<Next>, ScriptEnd>
+    requires going { lines.old.ended ≡ false }
+    requires sound { lines.old.fault ≡ None }
+    ensures hears { Hears shop.now result
+        (record { cutter = lines.old; rest = S.rest source.old })
+        (record { cutter = lines.new; rest = S.rest source.new }) }
+    ensures made { IfOk result (λ next. IfSome next (λ n. IsMade n.said)) }
+    ensures failed { result ≡ Err ReadFault → Rose (S.read_faults source.old) (S.read_faults source.new) }
+    ensures sound { OnOk result (lines.new.fault ≡ None) }
+    ensures at_end { IsTrue lines.new.ended → IsAtEnd (S.rest source.new) }
+    ensures none_kept { OnOk result (IsTrue lines.new.ended → lines.new.kept ≡ []) }
+    ensures within { lines.new.given ≤ lines.new.total_limit }
+    ensures counted { S.read_faults source.old ≤ S.read_faults source.new }
+    ensures aside { S.read_aside source.new ≡ S.read_aside source.old }
+{
+    let Some(line) = lines.next(source)? else {
+        return Ok(None);
+    };
+    match shop.hear(&line) {
+        Heard::Item(said) => Ok(Some(Next {
+            said,
+            turn: Turn::Going,
+        })),
+        Heard::Publish(announced) => {
+            let body = read_body(alloc, lines, source, announced.lines)?;
+            let turn = turn_after(&body);
+            Ok(Some(Next {
+                said: announced.with(body),
+                turn,
+            }))
+        }
+    }
+}
+
+/// Nothing comes after a text that the end cuts.
+fn turn_after(body: &Body) -> Turn
+    ensures { result ≡ turn_after body.now }
+{
+    match body {
+        Body::Cut => Turn::Last,
+        _ => Turn::Going,
+    }
+}

@@ -1,0 +1,15 @@
+//! Scripts: the calls of callers as lines of one text, each line answered before the next is read. What is written is
+//! the text that the definition gives for the bytes that were read, and every end of a script says how far it came.
+#![tactic(auto)]
+
+mod guest;
+mod hearing;
+mod item;
+mod running;
+mod script_end;
+mod shop;
+mod speaking;
+mod turn;
+
+pub use running::run_script;
+pub use script_end::ScriptEnd;

@@ -1,0 +1,231 @@
+//! The state of a script: the published versions, and the one caller with its sessions.
+
+ghost use Rattle.std.specs.Prelude.{◌≡◌, ℕ, ◌<◌, ◌≤◌, ◌+◌, ◌^◌, ◌==◌, List, length, true, false, IsTrue, Some, None, Ok, Err, IfOk, OnOk};
+ghost use Rattle.pc_file.specs.Products.{products, words_of};
+ghost use Rattle.pc_calls.specs.declared.call.Call.TheVariants.{Open, Show, Choose, Retract, Close, Publish, Leave};
+ghost use Rattle.pc_calls.specs.Heads.{reply};
+ghost use Rattle.pc_calls.specs.State.{State, empty, opened_by};
+ghost use Rattle.pc_calls.specs.Step.{after};
+ghost use Rattle.pc_script.specs.Heard.{may_speak};
+ghost use Rattle.pc_script.specs.Made.{IsMadeCall};
+ghost use Rattle.pc_script.specs.Script.{entered};
+
+use crate::guest::{Guest, plain_head, refused};
+use pc_base::{NoMemory, Sequence};
+use pc_calls::{Call, Outcome, Reply, SharedFile, Shown};
+use pc_file::{File, plain_products};
+use pc_names::Name;
+use pc_session::Session;
+use std::alloc::Global;
+use std::marker::Model;
+
+/// The most sessions that a caller may have open.
+const MOST_SESSIONS: usize = 64;
+
+/// The most versions that may be live.
+const MOST_LIVE: usize = 32;
+
+/// The files of the versions in order of their numbers, from 1 on, and the caller 1: whether it has entered, whether
+/// it has left, and its sessions.
+#[derive(Debug, Drop)]
+pub struct Shop {
+    versions: Sequence<SharedFile>,
+    entered: bool,
+    left: bool,
+    guest: Guest,
+}
+
+impl Model for Shop {
+    ghost use Rattle.std.specs.Prelude.{◌≡◌, ◌≤◌, false, All};
+    ghost use Rattle.std.specs.Coded.{codes};
+    ghost use Rattle.pc_calls.specs.State.{State};
+    ghost use Rattle.pc_calls.specs.contracts.shared_file.SharedFile as shared;
+    ghost use Rattle.pc_script.specs.ShopState.{IsPinned, IsShelved, state_by};
+
+    ghost Value = { State };
+
+    ghost coded = { Prim.hlevel (codes, shared.the_row.coded) };
+
+    ghost view = { λ s. state_by s.versions s.entered s.left s.guest.opened s.guest.sessions.items };
+
+    ghost invariant = { λ s. All IsShelved s.versions × All (IsPinned s.versions) s.guest.sessions.items × All (λ v. v.number ≤ s.guest.opened) s.guest.sessions.items
+        × (s.entered ≡ false → (s.guest.opened ≡ 0) × (s.left ≡ false)) };
+}
+
+/// Whether a file that has few words has a product.
+fn has_product(alloc: Global, file: &File) -> Result<bool, NoMemory>
+    requires { words_of file.now ≤ 65536 }
+    ensures { IfOk result (λ some. (some ≡ true → 1 ≤ length (products file.now)) × (some ≡ false → length (products file.now) ≡ 0)) }
+{
+    match plain_products(alloc, file) {
+        Ok(words) => Ok(!words.is_empty()),
+        Err(_) => Err(NoMemory),
+    }
+}
+
+impl Shop {
+    /// Nothing was published, and nobody has entered.
+    pub fn new(alloc: Global) -> Shop
+        ensures { result ≡ empty }
+    {
+        Shop {
+            versions: Sequence::new(alloc),
+            entered: false,
+            left: false,
+            guest: Guest {
+                alloc,
+                opened: 0,
+                sessions: Vec::new(alloc),
+            },
+        }
+    }
+
+    /// What the shop takes memory from.
+    pub fn alloc(&self) -> Global {
+        self.guest.alloc
+    }
+
+    /// The caller enters, unless it has before.
+    pub fn enter(&mut self)
+        ensures state { self.new ≡ entered self.old 1 }
+        ensures inside { length self.new.callers ≡ 1 }
+        ensures opened { opened_by self.new 1 ≡ opened_by self.old 1 }
+    {
+        self.entered = true;
+    }
+
+    /// Whether a number is that of the caller, and it hasn't left.
+    pub fn may_speak(&self, caller: u64) -> bool
+        ensures { result ≡ may_speak self.now caller }
+    {
+        caller == 1 && !self.left
+    }
+
+    /// The reply to a call of the caller, which has entered.
+    pub fn reply(&mut self, call: Call) -> Result<Reply, NoMemory>
+        requires made { IsMadeCall call }
+        requires inside { length self.old.callers ≡ 1 }
+        requires opened { opened_by self.old 1 < 2 ^ 63 }
+        ensures reply { IfOk result (λ r. r ≡ reply 1 call self.old) }
+        ensures state { OnOk result (self.new ≡ after 1 call self.old) }
+        ensures opened { OnOk result (opened_by self.new 1 ≤ opened_by self.old 1 + 1) }
+    {
+        match call {
+            Call::Open => self.open(),
+            Call::Show { session } => self.show(session),
+            Call::Choose {
+                session,
+                variable,
+                value,
+            } => self.choose(session, &variable, &value),
+            Call::Retract { session, variable } => self.retract(session, &variable),
+            Call::Close { session } => self.close(session),
+            Call::Publish { base, file } => self.publish(base, file),
+            Call::Leave => self.leave(),
+            Call::Enter
+            | Call::Bound { .. }
+            | Call::Unbound { .. }
+            | Call::Rebase { .. }
+            | Call::Reclaim { .. }
+            | Call::Versions => unreachable!(),
+        }
+    }
+
+    /// Opens a session at the current version.
+    fn open(&mut self) -> Result<Reply, NoMemory>
+        requires inside { length self.old.callers ≡ 1 }
+        requires opened { opened_by self.old 1 < 2 ^ 63 }
+        ensures reply { IfOk result (λ r. r ≡ reply 1 Open self.old) }
+        ensures state { OnOk result (self.new ≡ after 1 Open self.old) }
+        ensures opened { OnOk result (opened_by self.new 1 ≤ opened_by self.old 1 + 1) }
+    {
+        let version = self.versions.len();
+        if version == 0 {
+            return Ok(refused(self.guest.alloc, 0, 0, Outcome::NoVersion));
+        }
+        if self.guest.count() >= MOST_SESSIONS {
+            return Ok(refused(self.guest.alloc, 0, 0, Outcome::SessionsFull));
+        }
+        let Some(file) = self.versions.get(version - 1) else {
+            unreachable!();
+        };
+        let file = file.share()?;
+        self.guest.open(version as u64, file)
+    }
+
+    /// The listing of a session.
+    fn show(&mut self, number: u64) -> Result<Reply, NoMemory>
+        ensures reply { IfOk result (λ r. r ≡ reply 1 (Show number) self.old) }
+        ensures state { OnOk result (self.new ≡ after 1 (Show number) self.old) }
+        ensures opened { OnOk result (opened_by self.new 1 ≡ opened_by self.old 1) }
+    {
+        self.guest.show(number)
+    }
+
+    /// Chooses a value in a session.
+    fn choose(&mut self, number: u64, variable: &Name, value: &Name) -> Result<Reply, NoMemory>
+        ensures reply { IfOk result (λ r. r ≡ reply 1 (Choose number variable.now value.now) self.old) }
+        ensures state { OnOk result (self.new ≡ after 1 (Choose number variable.now value.now) self.old) }
+        ensures opened { OnOk result (opened_by self.new 1 ≡ opened_by self.old 1) }
+    {
+        self.guest.choose(number, variable, value)
+    }
+
+    /// Takes back a choice in a session.
+    fn retract(&mut self, number: u64, variable: &Name) -> Result<Reply, NoMemory>
+        ensures reply { IfOk result (λ r. r ≡ reply 1 (Retract number variable.now) self.old) }
+        ensures state { OnOk result (self.new ≡ after 1 (Retract number variable.now) self.old) }
+        ensures opened { OnOk result (opened_by self.new 1 ≡ opened_by self.old 1) }
+    {
+        self.guest.retract(number, variable)
+    }
+
+    /// Ends a session.
+    fn close(&mut self, number: u64) -> Result<Reply, NoMemory>
+        ensures reply { IfOk result (λ r. r ≡ reply 1 (Close number) self.old) }
+        ensures state { OnOk result (self.new ≡ after 1 (Close number) self.old) }
+        ensures opened { OnOk result (opened_by self.new 1 ≡ opened_by self.old 1) }
+    {
+        Ok(self.guest.close(number))
+    }
+
+    /// Makes a file the next version.
+    fn publish(&mut self, base: u64, file: SharedFile) -> Result<Reply, NoMemory>
+        requires few { words_of file ≤ 65536 }
+        ensures reply { IfOk result (λ r. r ≡ reply 1 (Publish base file) self.old) }
+        ensures state { OnOk result (self.new ≡ after 1 (Publish base file) self.old) }
+        ensures opened { OnOk result (opened_by self.new 1 ≡ opened_by self.old 1) }
+    {
+        let alloc = self.guest.alloc;
+        if !has_product(alloc, file.file())? {
+            return Ok(refused(alloc, 0, 0, Outcome::NoProduct));
+        }
+        let current = self.versions.len() as u64;
+        if base != current {
+            return Ok(refused(alloc, 0, 0, Outcome::Stale { current }));
+        }
+        if self.versions.len() >= MOST_LIVE {
+            return Ok(refused(alloc, 0, 0, Outcome::ShelvesFull));
+        }
+        self.versions.push(file)?;
+        Ok(Reply {
+            head: plain_head(alloc, 0, current + 1, Outcome::Done),
+            shown: None,
+        })
+    }
+
+    /// The caller's sessions end, and it makes no more calls.
+    fn leave(&mut self) -> Result<Reply, NoMemory>
+        requires inside { length self.old.callers ≡ 1 }
+        ensures reply { IfOk result (λ r. r ≡ reply 1 Leave self.old) }
+        ensures state { OnOk result (self.new ≡ after 1 Leave self.old) }
+        ensures opened { OnOk result (opened_by self.new 1 ≡ opened_by self.old 1) }
+    {
+        self.left = true;
+        self.guest.sessions = Vec::new(self.guest.alloc);
+        Ok(Reply {
+            head: plain_head(self.guest.alloc, 0, 0, Outcome::Done),
+            shown: None,
+        })
+    }
+}

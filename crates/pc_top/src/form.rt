@@ -1,0 +1,37 @@
+//! The forms of the command line.
+
+ghost use Rattle.std.specs.Prelude.{◌≡◌, map};
+ghost use Rattle.pc_top.specs.Words.{form_of, form_of_word};
+
+/// A job of the program.
+#[derive(Clone, Copy, Debug, PartialEq, Eq)]
+pub enum Form {
+    /// `list`: a product text in, its open listing out.
+    List,
+    /// `script`: lines of commands in, their answers out.
+    Script,
+}
+
+impl Form {
+    /// The job that the words of a command line name.
+    pub fn read(words: &[Vec<u8>]) -> Option<Form>
+        ensures { result ≡ form_of (map (λ word. word.items) words.now) }
+    {
+        match words {
+            [word] => Form::of_word(word.as_slice()),
+            _ => None,
+        }
+    }
+
+    fn of_word(word: &[u8]) -> Option<Form>
+        ensures { result ≡ form_of_word word.now }
+    {
+        if word == b"list".as_slice() {
+            Some(Form::List)
+        } else if word == b"script".as_slice() {
+            Some(Form::Script)
+        } else {
+            None
+        }
+    }
+}
