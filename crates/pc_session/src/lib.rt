@@ -9,3 +9,5 @@ mod session;
 pub use answer::Answer;
 pub use session::Session;
 
+#[cfg(test)]
+mod tests;

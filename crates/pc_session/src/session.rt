@@ -158,9 +158,9 @@ impl Session {
         if self.choices.is_chosen(variable) {
             return Ok(Answer::done(listing));
         }
-        let choices = self.choices.with(self.alloc, variable, value)?;
-        let listing = self.listing(&words, &choices)?;
-        self.choices = choices;
+        let more = self.choices.with(self.alloc, variable, value)?;
+        let listing = self.listing(&words, &more)?;
+        self.choices = more;
         Ok(Answer::done(listing))
     }
 
@@ -177,10 +177,10 @@ impl Session {
         if !self.choices.is_chosen(variable) {
             return Ok(Answer::refused(Outcome::NotChosen));
         }
-        let choices = self.choices.without(self.alloc, variable)?;
+        let fewer = self.choices.without(self.alloc, variable)?;
         let words = products_of(self.alloc, self.file.file())?;
-        let listing = self.listing(&words, &choices)?;
-        self.choices = choices;
+        let listing = self.listing(&words, &fewer)?;
+        self.choices = fewer;
         Ok(Answer::done(listing))
     }
 }
