@@ -76,11 +76,12 @@ pub at_place : (number : ℕ) (visits : List Visit) (place : ℕ) (visit : Visit
     × (without_number number visits ≡ take place visits ++ drop (suc place) visits)
     × (visit.number ≡ number)
 at_place number visits place visit is same =
-    let found = position-Some (has_number number) visits place visit is in
-    (find-at number visits place visit found.0 found.1 found.2 ∙ ap (λ (v : Visit). Some v) same,
-    λ ask. after-at number ask visits place visit found.0 found.1 found.2 ∙ ap (λ (v : Visit). slice_set visits place (visit_after v (ask v.file v.selection))) same,
-    without-at number visits place visit found.0 found.1 found.2,
-    (let here : has_number number visit ≡ true = sym (ap (has_number number) same) ∙ found.1 in grind (arith, nat_tests)))
+    let found = position-Some (has_number number) visits place visit is in (
+      find-at number visits place visit found.0 found.1 found.2 ∙ ap (λ (v : Visit). Some v) same,
+      λ ask. after-at number ask visits place visit found.0 found.1 found.2 ∙ ap (λ (v : Visit). slice_set visits place (visit_after v (ask v.file v.selection))) same,
+      without-at number visits place visit found.0 found.1 found.2,
+      (let here : has_number number visit ≡ true = sym (ap (has_number number) same) ∙ found.1 in grind (arith, nat_tests)),
+    )
 
 -- the reply to what a session answered
 pub replied_is : (visit : Visit) (given : Answer Selection)

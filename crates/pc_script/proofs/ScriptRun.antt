@@ -238,21 +238,23 @@ module _ (l : Cutter) (state : State) (rest_then rest written_then written : Opt
       let took = took_both so_far.taken says.taken so_far.bytes says.bytes (at first rest_then) (at l rest) (at m mid) going so_far.took says.took in
       let later = told_later all (so_far.bytes ++ says.bytes) (coming (at m mid)) (sym told ∙ prepend_none rest_then ∙ took.read) in
       let cut : lines all ≡ (so_far.taken ++ says.taken) ++ lines later.0 = ap lines later.2 ∙ took.cut later.0 (may_come m mid later.0 none end later.1) in
-      let more : List ℕ = last_answers (after_lines beginning (so_far.taken ++ says.taken)) (lines later.0) in
-      (more,
-      script_text-is all ∙ ap (last_answers beginning) cut ∙ last-append beginning (so_far.taken ++ says.taken) (lines later.0)
-      ∙ ap (λ (t : List ℕ). t ++ more) (more_answers so_far.taken says.taken state (item_text state said) so_far.then says.text)
-      ∙ append_assoc (answers_to so_far.taken) (item_text state said) more)
+      let more : List ℕ = last_answers (after_lines beginning (so_far.taken ++ says.taken)) (lines later.0) in (
+        more,
+        script_text-is all ∙ ap (last_answers beginning) cut ∙ last-append beginning (so_far.taken ++ says.taken) (lines later.0)
+            ∙ ap (λ (t : List ℕ). t ++ more) (more_answers so_far.taken says.taken state (item_text state said) so_far.then says.text)
+            ∙ append_assoc (answers_to so_far.taken) (item_text state said) more,
+      )
   goes_on_with all said Last m mid told going says none end =
       let took = took_both so_far.taken says.taken so_far.bytes says.bytes (at first rest_then) (at l rest) (at m mid) going so_far.took says.took in
       let later = told_later all (so_far.bytes ++ says.bytes) (coming (at m mid)) (sym told ∙ prepend_none rest_then ∙ took.read) in
       let nothing : later.0 ≡ [] = may_come m mid later.0 none end later.1 says.ended in
-      let whole : all ≡ so_far.bytes ++ says.bytes = later.2 ∙ ap (λ (b : List ℕ). (so_far.bytes ++ says.bytes) ++ b) nothing ∙ append-nil (so_far.bytes ++ says.bytes) in
-      ([],
-      script_text-is all ∙ ap (λ (b : List ℕ). last_answers beginning (lines b)) whole
-      ∙ ap (last_answers beginning) (lines-all (so_far.taken ++ says.taken) (so_far.bytes ++ says.bytes) (at first rest_then) (at m mid) took)
-      ∙ more_last so_far.taken says.taken state (item_text state said) so_far.then says.text
-      ∙ ap (λ (t : List ℕ). answers_to so_far.taken ++ t) (sym (append-nil (item_text state said))))
+      let whole : all ≡ so_far.bytes ++ says.bytes = later.2 ∙ ap (λ (b : List ℕ). (so_far.bytes ++ says.bytes) ++ b) nothing ∙ append-nil (so_far.bytes ++ says.bytes) in (
+        [],
+        script_text-is all ∙ ap (λ (b : List ℕ). last_answers beginning (lines b)) whole
+            ∙ ap (last_answers beginning) (lines-all (so_far.taken ++ says.taken) (so_far.bytes ++ says.bytes) (at first rest_then) (at m mid) took)
+            ∙ more_last so_far.taken says.taken state (item_text state said) so_far.then says.text
+            ∙ ap (λ (t : List ℕ). answers_to so_far.taken ++ t) (sym (append-nil (item_text state said))),
+      )
 
   part_of : (all : List ℕ) (said : Said) (turn : Turn) (m : Cutter) (mid new : Option (List ℕ)) → rest_then ≡ Some all → l.ended ≡ false → HearsTurn state said turn (at l rest) (at m mid) → (IsTrue m.ended → m.kept ≡ []) → (IsTrue m.ended → IsAtEnd mid)
       → GrewByPart (item_text state said) written new → GrewByPart (script_text all) written_then new
@@ -288,9 +290,10 @@ module _ (l : Cutter) (state : State) (rest_then rest written_then written : Opt
       → (end ≡ ScriptFault.ReadFault → Rose reads reads_now)
       → LeavesBy (Err end) (record { rest = rest_then; read_faults = reads_then; written = written_then; write_faults = writes_then }) (record { rest = mid; read_faults = reads_now; written = written; write_faults = writes_now })
   script_unheard ScriptFault.Ended m mid reads_now writes_now going hears rose = elim hears [ ]
-  script_unheard ScriptFault.ReadFault m mid reads_now writes_now going hears rose =
-      (rose_since reads_then reads reads_now so_far.reads_counted (rose refl),
-      script_read_fails l state rest_then rest written_then written reads_then reads writes_then writes read_aside_then read_aside write_aside_then write_aside so_far m mid reads_now writes_now going hears)
+  script_unheard ScriptFault.ReadFault m mid reads_now writes_now going hears rose = (
+    rose_since reads_then reads reads_now so_far.reads_counted (rose refl),
+    script_read_fails l state rest_then rest written_then written reads_then reads writes_then writes read_aside_then read_aside write_aside_then write_aside so_far m mid reads_now writes_now going hears,
+  )
   script_unheard ScriptFault.WriteFault m mid reads_now writes_now going hears rose = elim hears [ ]
   script_unheard ScriptFault.TooLong m mid reads_now writes_now going hears rose =
       if_told rest_then (λ all. AnswersBefore all (record { rest = rest_then; read_faults = reads_then; written = written_then; write_faults = writes_then }) (record { rest = mid; read_faults = reads_now; written = written; write_faults = writes_now }))
@@ -306,10 +309,11 @@ module _ (l : Cutter) (state : State) (rest_then rest written_then written : Opt
       → LeavesBy (Err end) (record { rest = rest_then; read_faults = reads_then; written = written_then; write_faults = writes_then }) (record { rest = mid; read_faults = reads_now; written = new; write_faults = writes_now })
   script_unanswered ScriptFault.Ended said turn m mid new reads_now writes_now going hears none at_end writes_so = elim writes_so [ ]
   script_unanswered ScriptFault.ReadFault said turn m mid new reads_now writes_now going hears none at_end writes_so = elim writes_so [ ]
-  script_unanswered ScriptFault.WriteFault said turn m mid new reads_now writes_now going hears none at_end writes_so =
-      (rose_since writes_then writes writes_now so_far.writes_counted writes_so.0,
-      if_told rest_then (λ all. GrewByPart (script_text all) written_then new)
-      (λ all told. part_of l state rest_then rest written_then written reads_then reads writes_then writes read_aside_then read_aside write_aside_then write_aside so_far all said turn m mid new told going hears none at_end writes_so.1))
+  script_unanswered ScriptFault.WriteFault said turn m mid new reads_now writes_now going hears none at_end writes_so = (
+    rose_since writes_then writes writes_now so_far.writes_counted writes_so.0,
+    if_told rest_then (λ all. GrewByPart (script_text all) written_then new)
+        (λ all told. part_of l state rest_then rest written_then written reads_then reads writes_then writes read_aside_then read_aside write_aside_then write_aside so_far all said turn m mid new told going hears none at_end writes_so.1),
+  )
   script_unanswered ScriptFault.TooLong said turn m mid new reads_now writes_now going hears none at_end writes_so = elim writes_so [ ]
   script_unanswered ScriptFault.NoMemory said turn m mid new reads_now writes_now going hears none at_end writes_so =
       if_told rest_then (λ all. AnswersSome all (record { rest = rest_then; read_faults = reads_then; written = written_then; write_faults = writes_then }) (record { rest = mid; read_faults = reads_now; written = new; write_faults = writes_now }))

@@ -50,7 +50,7 @@ change-owned : (number : ℕ) (ask : Contents → Selection → Answer Selection
 change-owned number ask [] visit selection e given = refl
 change-owned number ask (v ∷ visits) visit selection e given =
     (elim (v.number == number) as (λ b. cond b (Some v) (find (has_number number) visits) ≡ Some visit
-        → cond b (asking selection (owned v) ∷ map owned visits) (owned v ∷ change_first (is_session 1 number) (asking selection) (map owned visits)) ≡ map owned (cond b (visit_after v (ask v.file v.selection) ∷ visits) (v ∷ visits_after number ask visits))) [
+    → cond b (asking selection (owned v) ∷ map owned visits) (owned v ∷ change_first (is_session 1 number) (asking selection) (map owned visits)) ≡ map owned (cond b (visit_after v (ask v.file v.selection) ∷ visits) (v ∷ visits_after number ask visits))) [
       | true ↦ λ is. let same : v ≡ visit = cc in
           let gives : ask v.file v.selection ≡ Ok selection = ap (λ (w : Visit). ask w.file w.selection) same ∙ given in
           ap (λ (g : Answer Selection). owned (visit_after v g) ∷ map owned visits) (sym gives)
@@ -86,7 +86,7 @@ find-after : (number : ℕ) (ask : Contents → Selection → Answer Selection) 
 find-after number ask [] visit e = absurd cc
 find-after number ask (v ∷ visits) visit e =
     (elim (v.number == number) as (λ b. (v.number == number) ≡ b → cond b (Some v) (find (has_number number) visits) ≡ Some visit
-        → find (has_number number) (cond b (visit_after v (ask v.file v.selection) ∷ visits) (v ∷ visits_after number ask visits)) ≡ Some (visit_after visit (ask visit.file visit.selection))) [
+    → find (has_number number) (cond b (visit_after v (ask v.file v.selection) ∷ visits) (v ∷ visits_after number ask visits)) ≡ Some (visit_after visit (ask visit.file visit.selection))) [
       | true ↦ λ test is. let same : v ≡ visit = cc in
           ap (λ (b : Bool). cond b (Some (visit_after v (ask v.file v.selection))) (find (has_number number) visits)) (ap (λ (n : ℕ). n == number) (number-after v (ask v.file v.selection)) ∙ test)
           ∙ ap (λ (w : Visit). Some (visit_after w (ask w.file w.selection))) same
@@ -162,32 +162,35 @@ module _ (files : List Contents) (entered left : Bool) (opened : ℕ) (visits : 
       → (reply 1 call before ≡ visit_reply visit result) × (after 1 call before ≡ later_by)
   of-visit visit (Err refusal) e is_pinned is =
       let gives : given 1 call before ≡ Err refusal = own.gives ∙ in-some files entered left opened visits number ask visit e is_pinned ∙ ap (λ (r : Answer Selection). r >>= (λ selection. Ok (with_selection 1 number selection before))) is in
-      let numbered : visit.number ≡ number = found-number number visits visit e in
-      (ap (reply_by call before) gives ∙ refused-reply call number ask before refusal own
-      ∙ ap (λ (o : Option OpenSession). record { head = plain_head number (unwrap_or (option_map (λ s. s.version) o) 0) refusal; shown = None }) (session-found files entered left opened visits number (Some visit) e)
-      ∙ ap (λ (n : ℕ). record { head = plain_head n visit.version refusal; shown = None }) (sym numbered),
-      ap (state_of before) gives ∙ ap (state_by files entered left opened) (sym (refused-leaves number ask visits visit refusal e is)))
+      let numbered : visit.number ≡ number = found-number number visits visit e in (
+        ap (reply_by call before) gives ∙ refused-reply call number ask before refusal own
+            ∙ ap (λ (o : Option OpenSession). record { head = plain_head number (unwrap_or (option_map (λ s. s.version) o) 0) refusal; shown = None }) (session-found files entered left opened visits number (Some visit) e)
+            ∙ ap (λ (n : ℕ). record { head = plain_head n visit.version refusal; shown = None }) (sym numbered),
+        ap (state_of before) gives ∙ ap (state_by files entered left opened) (sym (refused-leaves number ask visits visit refusal e is)),
+      )
   of-visit visit (Ok selection) e is_pinned is =
       let gives : given 1 call before ≡ Ok later_by =
       own.gives ∙ in-some files entered left opened visits number ask visit e is_pinned ∙ ap (λ (r : Answer Selection). r >>= (λ s. Ok (with_selection 1 number s before))) is ∙ ap (λ (s : State). Ok s) (is-later visit selection e is) in
       let numbered : visit.number ≡ number = found-number number visits visit e in
       let found : find (has_number number) (visits_after number ask visits) ≡ Some (visit_after visit (Ok selection)) = find-after number ask visits visit e ∙ ap (λ (r : Answer Selection). Some (visit_after visit r)) is in
-      let there = session-found files entered left opened (visits_after number ask visits) number (Some (visit_after visit (Ok selection))) found in
-      (ap (reply_by call before) gives ∙ done-reply call number ask before later_by own
-      ∙ ap (λ (o : Option OpenSession). record {
-        head = plain_head number (unwrap_or (option_map (λ s. s.version) o) 0) Done;
-        shown = option_and_then (λ s. option_map (λ f. record { file = f; listing = shown f s.selection }) (file_of later_by s.version)) o
-      }) there
-      ∙ ap (λ (o : Option Contents). record { head = plain_head number visit.version Done; shown = option_map (λ f. record { file = f; listing = shown f selection }) o }) (file-found files entered left opened (visits_after number ask visits) visit is_pinned)
-      ∙ ap (λ (n : ℕ). record { head = plain_head n visit.version Done; shown = Some (record { file = visit.file; listing = shown visit.file selection }) }) (sym numbered),
-      ap (state_of before) gives)
+      let there = session-found files entered left opened (visits_after number ask visits) number (Some (visit_after visit (Ok selection))) found in (
+        ap (reply_by call before) gives ∙ done-reply call number ask before later_by own
+            ∙ ap (λ (o : Option OpenSession). record {
+              head = plain_head number (unwrap_or (option_map (λ s. s.version) o) 0) Done;
+              shown = option_and_then (λ s. option_map (λ f. record { file = f; listing = shown f s.selection }) (file_of later_by s.version)) o;
+            }) there
+            ∙ ap (λ (o : Option Contents). record { head = plain_head number visit.version Done; shown = option_map (λ f. record { file = f; listing = shown f selection }) o }) (file-found files entered left opened (visits_after number ask visits) visit is_pinned)
+            ∙ ap (λ (n : ℕ). record { head = plain_head n visit.version Done; shown = Some (record { file = visit.file; listing = shown visit.file selection }) }) (sym numbered),
+        ap (state_of before) gives,
+      )
 
   of-found : (found : Option Visit) → find (has_number number) visits ≡ found → (reply 1 call before ≡ reply_at number ask found) × (after 1 call before ≡ later_by)
   of-found None e =
-      let gives : given 1 call before ≡ Err NoSession = own.gives ∙ in-none files entered left opened visits number ask e in
-      (ap (reply_by call before) gives ∙ refused-reply call number ask before NoSession own
-      ∙ ap (λ (o : Option OpenSession). record { head = plain_head number (unwrap_or (option_map (λ s. s.version) o) 0) NoSession; shown = None }) (session-found files entered left opened visits number None e),
-      ap (state_of before) gives ∙ ap (state_by files entered left opened) (sym (none-leaves number ask visits e)))
+      let gives : given 1 call before ≡ Err NoSession = own.gives ∙ in-none files entered left opened visits number ask e in (
+        ap (reply_by call before) gives ∙ refused-reply call number ask before NoSession own
+            ∙ ap (λ (o : Option OpenSession). record { head = plain_head number (unwrap_or (option_map (λ s. s.version) o) 0) NoSession; shown = None }) (session-found files entered left opened visits number None e),
+        ap (state_of before) gives ∙ ap (state_by files entered left opened) (sym (none-leaves number ask visits e)),
+      )
   of-found (Some visit) e = of-visit visit (ask visit.file visit.selection) e (found-has (IsPinned files) (has_number number) visits visit pinned e) refl
 
   pub own_reply : reply 1 call before ≡ reply_among number ask visits

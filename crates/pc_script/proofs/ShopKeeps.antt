@@ -118,12 +118,14 @@ pub open_keeps : {A E : Type 0} (result : Result A E) (files : List Contents) (o
     → OnOk result (visits_now ≡ visits ++ new ∷ []) → OnOk result (opened_now ≡ opened + 1) → OnErr result ((visits_now ≡ visits) × (opened_now ≡ opened))
     → All (IsPinned files) visits → All (λ v. v.number ≤ opened) visits → IsPinned files new → new.number ≡ opened + 1
     → All (IsPinned files) visits_now × All (λ v. v.number ≤ opened_now) visits_now
-open_keeps (Ok x) files opened opened_now visits visits_now new more one kept pinned low is_pinned numbered =
-    (subst (All (IsPinned files)) (sym more) (kept_push (IsPinned files) visits new pinned is_pinned),
-    subst (λ n. All (λ v. v.number ≤ n) visits_now) (sym one) (subst (All (λ v. v.number ≤ opened + 1)) (sym more) (kept_push (λ v. v.number ≤ opened + 1) visits new (low_more opened visits low) (omega (arith, numbered)))))
-open_keeps (Err e) files opened opened_now visits visits_now new more one kept pinned low is_pinned numbered =
-    (subst (All (IsPinned files)) (sym kept.0) pinned,
-    subst (λ n. All (λ v. v.number ≤ n) visits_now) (sym kept.1) (subst (All (λ v. v.number ≤ opened)) (sym kept.0) low))
+open_keeps (Ok x) files opened opened_now visits visits_now new more one kept pinned low is_pinned numbered = (
+  subst (All (IsPinned files)) (sym more) (kept_push (IsPinned files) visits new pinned is_pinned),
+  subst (λ n. All (λ v. v.number ≤ n) visits_now) (sym one) (subst (All (λ v. v.number ≤ opened + 1)) (sym more) (kept_push (λ v. v.number ≤ opened + 1) visits new (low_more opened visits low) (omega (arith, numbered)))),
+)
+open_keeps (Err e) files opened opened_now visits visits_now new more one kept pinned low is_pinned numbered = (
+  subst (All (IsPinned files)) (sym kept.0) pinned,
+  subst (λ n. All (λ v. v.number ≤ n) visits_now) (sym kept.1) (subst (All (λ v. v.number ≤ opened)) (sym kept.0) low),
+)
 
 pub on_ok_two : {A E X : Type 0} (result : Result A E) (f : ℕ → List Visit → X) (opened_now opened : ℕ) (visits_now visits : List Visit) (after : X) → OnOk result (opened_now ≡ opened) → OnOk result (visits_now ≡ visits) → f opened visits ≡ after → OnOk result (f opened_now visits_now ≡ after)
 on_ok_two (Ok x) f opened_now opened visits_now visits after h k e = ap (λ (n : ℕ). f n visits_now) h ∙ ap (f opened) k ∙ e

@@ -59,7 +59,7 @@ abbrev opened_state : State → State
 opened_state state = record {
   versions = state.versions;
   callers = change_numbered with_opened state.callers 1;
-  sessions = state.sessions ++ record { owner = 1; number = opened_by state 1 + 1; version = current state; selection = free } ∷ []
+  sessions = state.sessions ++ record { owner = 1; number = opened_by state 1 + 1; version = current state; selection = free } ∷ [];
 }
 
 abbrev closed_state : State → ℕ → State
@@ -112,16 +112,17 @@ module _ (files : List Contents) (left : Bool) (opened : ℕ) (visits : List Vis
       ap (λ (b : Bool). refused_where b NoVersion >> (refused_where (nat_le 64 (open_sessions here 1)) SessionsFull >> Ok (opened_state here))) test
       ∙ ap (λ (b : Bool). refused_where b SessionsFull >> Ok (opened_state here)) room
       ∙ ap (λ (s : State). Ok s) becomes in
-      let there = session-found files true left (opened + 1) (visits ++ new ∷ []) (opened + 1) (Some new) (find-new opened visits new low numbered) in
-      (ap (reply_by Open here) gives
-      ∙ ap (λ (o : Option OpenSession). record {
-        head = plain_head (opened + 1) (unwrap_or (option_map (λ s. s.version) o) 0) Done;
-        shown = option_and_then (λ s. option_map (λ f. record { file = f; listing = shown f s.selection }) (file_of later s.version)) o
-      }) there
-      ∙ ap (λ (o : Option Contents). record { head = plain_head (opened + 1) new.version Done; shown = option_map (λ f. record { file = f; listing = shown f new.selection }) o }) (file-found files true left (opened + 1) (visits ++ new ∷ []) new pinned)
-      ∙ ap (λ (v : ℕ). record { head = plain_head (opened + 1) v Done; shown = Some (record { file = new.file; listing = shown new.file new.selection }) }) versioned
-      ∙ ap (λ (s : Selection). record { head = plain_head (opened + 1) (length files) Done; shown = Some (record { file = new.file; listing = shown new.file s }) }) is_free,
-      ap (state_of here) gives)
+      let there = session-found files true left (opened + 1) (visits ++ new ∷ []) (opened + 1) (Some new) (find-new opened visits new low numbered) in (
+        ap (reply_by Open here) gives
+            ∙ ap (λ (o : Option OpenSession). record {
+              head = plain_head (opened + 1) (unwrap_or (option_map (λ s. s.version) o) 0) Done;
+              shown = option_and_then (λ s. option_map (λ f. record { file = f; listing = shown f s.selection }) (file_of later s.version)) o;
+            }) there
+            ∙ ap (λ (o : Option Contents). record { head = plain_head (opened + 1) new.version Done; shown = option_map (λ f. record { file = f; listing = shown f new.selection }) o }) (file-found files true left (opened + 1) (visits ++ new ∷ []) new pinned)
+            ∙ ap (λ (v : ℕ). record { head = plain_head (opened + 1) v Done; shown = Some (record { file = new.file; listing = shown new.file new.selection }) }) versioned
+            ∙ ap (λ (s : Selection). record { head = plain_head (opened + 1) (length files) Done; shown = Some (record { file = new.file; listing = shown new.file s }) }) is_free,
+        ap (state_of here) gives,
+      )
 
   -- leave
   pub leave_done : (reply 1 Leave here ≡ refusal_of 0 0 Done) × (after 1 Leave here ≡ state_by files true true opened [])
@@ -143,14 +144,16 @@ module _ (files : List Contents) (entered left : Bool) (opened : ℕ) (visits : 
       → (reply 1 (Close number) now ≡ close_reply number found) × (after 1 (Close number) now ≡ state_by files entered left opened (without_number number visits))
   close-found number None e =
       let there = session-found files entered left opened visits number None e in
-      let gives : given 1 (Close number) now ≡ Err NoSession = ap (λ (o : Option OpenSession). required o NoSession >>= (λ session. Ok (closed_state now number))) there in
-      (ap (reply_by (Close number) now) gives ∙ ap (λ (o : Option OpenSession). refusal_of number (unwrap_or (option_map (λ s. s.version) o) 0) NoSession) there,
-      ap (state_of now) gives ∙ ap (state_by files entered left opened) (sym (none-without number visits e)))
+      let gives : given 1 (Close number) now ≡ Err NoSession = ap (λ (o : Option OpenSession). required o NoSession >>= (λ session. Ok (closed_state now number))) there in (
+        ap (reply_by (Close number) now) gives ∙ ap (λ (o : Option OpenSession). refusal_of number (unwrap_or (option_map (λ s. s.version) o) 0) NoSession) there,
+        ap (state_of now) gives ∙ ap (state_by files entered left opened) (sym (none-without number visits e)),
+      )
   close-found number (Some visit) e =
       let there = session-found files entered left opened visits number (Some visit) e in
-      let gives : given 1 (Close number) now ≡ Ok (closed_state now number) = ap (λ (o : Option OpenSession). required o NoSession >>= (λ session. Ok (closed_state now number))) there in
-      (ap (reply_by (Close number) now) gives ∙ ap (λ (o : Option OpenSession). refusal_of number (unwrap_or (option_map (λ s. s.version) o) 0) Done) there,
-      ap (state_of now) gives ∙ ap (λ (ss : List OpenSession). record { versions = map on_shelf files; callers = callers_by entered left opened; sessions = ss }) (drop-owned number visits))
+      let gives : given 1 (Close number) now ≡ Ok (closed_state now number) = ap (λ (o : Option OpenSession). required o NoSession >>= (λ session. Ok (closed_state now number))) there in (
+        ap (reply_by (Close number) now) gives ∙ ap (λ (o : Option OpenSession). refusal_of number (unwrap_or (option_map (λ s. s.version) o) 0) Done) there,
+        ap (state_of now) gives ∙ ap (λ (ss : List OpenSession). record { versions = map on_shelf files; callers = callers_by entered left opened; sessions = ss }) (drop-owned number visits),
+      )
 
   -- close
   pub close_reply_is : (number : ℕ) → reply 1 (Close number) now ≡ close_reply number (find (has_number number) visits)
@@ -199,6 +202,7 @@ module _ (files : List Contents) (entered left : Bool) (opened : ℕ) (visits : 
   publish_done base file some same few =
       let gives : given 1 (Publish base file) now ≡ Ok (published file) =
       current-base base file some same ∙ ap (λ (b : Bool). refused_where b ShelvesFull >> Ok (published file)) (let n = live-shelf files in let t : nat_le 32 (live_versions now) ≡ false = grind (arith, nat_tests, n, few) in t) in
-      let count : length (map on_shelf files ++ on_shelf file ∷ []) ≡ length files + 1 = length-append (map on_shelf files) (on_shelf file ∷ []) ∙ ap (λ (n : ℕ). n + 1) (length-shelf files) in
-      (ap (reply_by (Publish base file) now) gives ∙ ap (λ (n : ℕ). refusal_of 0 n Done) count,
-      ap (state_of now) gives ∙ ap (λ (vs : List Version). record { versions = vs; callers = callers_by entered left opened; sessions = map owned visits }) (sym (map-append on_shelf files (file ∷ []))))
+      let count : length (map on_shelf files ++ on_shelf file ∷ []) ≡ length files + 1 = length-append (map on_shelf files) (on_shelf file ∷ []) ∙ ap (λ (n : ℕ). n + 1) (length-shelf files) in (
+        ap (reply_by (Publish base file) now) gives ∙ ap (λ (n : ℕ). refusal_of 0 n Done) count,
+        ap (state_of now) gives ∙ ap (λ (vs : List Version). record { versions = vs; callers = callers_by entered left opened; sessions = map owned visits }) (sym (map-append on_shelf files (file ∷ []))),
+      )

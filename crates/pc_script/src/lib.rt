@@ -13,3 +13,6 @@ mod turn;
 
 pub use running::run_script;
 pub use script_end::ScriptEnd;
+
+#[cfg(test)]
+mod tests;

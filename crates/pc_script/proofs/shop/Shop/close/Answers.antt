@@ -10,11 +10,12 @@ use Rattle.pc_script.proofs.shop.Shop.close.Goals as goal
 pub invariant_of-self : goal.invariant_of-self
 invariant_of-self c =
     let s = c.self.inside in
-    let kept = c.self.invariant in
-    (kept.0,
-    rw c.close.ensures.sessions (kept_without (IsPinned s.versions) c.args.number s.guest.sessions.items kept.1),
-    rw (c.close.ensures.opened, c.close.ensures.sessions) (kept_without (λ v. v.number ≤ s.guest.opened) c.args.number s.guest.sessions.items kept.2),
-    rw c.close.ensures.opened kept.3)
+    let kept = c.self.invariant in (
+      kept.0,
+      rw c.close.ensures.sessions (kept_without (IsPinned s.versions) c.args.number s.guest.sessions.items kept.1),
+      rw (c.close.ensures.opened, c.close.ensures.sessions) (kept_without (λ v. v.number ≤ s.guest.opened) c.args.number s.guest.sessions.items kept.2),
+      rw c.close.ensures.opened kept.3,
+    )
 
 pub returns-clause-reply : goal.returns-clause-reply
 returns-clause-reply c =

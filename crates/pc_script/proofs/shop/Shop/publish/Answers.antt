@@ -31,10 +31,12 @@ pub invariant_of-self-2 : goal.invariant_of-self-2
 invariant_of-self-2 c =
     let s = c.self.inside in
     let some : 1 ≤ length (products c.args.file) = rw c.file-2.ensures at (c.in_ok-has_product.ensures.0 c.if-not-branch.false) in
-    let kept = c.self.invariant in
-    (rw c.in_ok-push.ensures.ok (kept_push IsShelved s.versions c.args.file kept.0 (c.requires.few, some)),
-    rw c.in_ok-push.ensures.ok (pinned_more s.versions (c.args.file ∷ []) s.guest.sessions.items kept.1),
-    kept.2, kept.3)
+    let kept = c.self.invariant in (
+      rw c.in_ok-push.ensures.ok (kept_push IsShelved s.versions c.args.file kept.0 (c.requires.few, some)),
+      rw c.in_ok-push.ensures.ok (pinned_more s.versions (c.args.file ∷ []) s.guest.sessions.items kept.1),
+      kept.2,
+      kept.3,
+    )
 
 pub returns-clause-reply : goal.returns-clause-reply
 returns-clause-reply c =

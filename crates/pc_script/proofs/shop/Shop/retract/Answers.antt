@@ -14,11 +14,12 @@ invariant_of-self c =
     let files = c.self.inside.versions in
     let visits = c.self.inside.guest.sessions.items in
     let opened = c.self.inside.guest.opened in
-    let kept = c.self.invariant in
-    (kept.0,
-    either_kept c.retract.result (All (IsPinned files)) visits (visits_after c.args.number (retract c.args.variable.now) visits) c.retract.new.self.sessions.items c.retract.ensures.sessions c.retract.ensures.kept kept.1 (pinned_after files c.args.number (retract c.args.variable.now) visits kept.1),
-    rw c.retract.ensures.opened (either_kept c.retract.result (All (λ v. v.number ≤ opened)) visits (visits_after c.args.number (retract c.args.variable.now) visits) c.retract.new.self.sessions.items c.retract.ensures.sessions c.retract.ensures.kept kept.2 (low_after opened c.args.number (retract c.args.variable.now) visits kept.2)),
-    rw c.retract.ensures.opened kept.3)
+    let kept = c.self.invariant in (
+      kept.0,
+      either_kept c.retract.result (All (IsPinned files)) visits (visits_after c.args.number (retract c.args.variable.now) visits) c.retract.new.self.sessions.items c.retract.ensures.sessions c.retract.ensures.kept kept.1 (pinned_after files c.args.number (retract c.args.variable.now) visits kept.1),
+      rw c.retract.ensures.opened (either_kept c.retract.result (All (λ v. v.number ≤ opened)) visits (visits_after c.args.number (retract c.args.variable.now) visits) c.retract.new.self.sessions.items c.retract.ensures.sessions c.retract.ensures.kept kept.2 (low_after opened c.args.number (retract c.args.variable.now) visits kept.2)),
+      rw c.retract.ensures.opened kept.3,
+    )
 
 pub returns-clause-reply : goal.returns-clause-reply
 returns-clause-reply c =
