@@ -3,3 +3,4 @@ pub mod TableLemmas
 pub mod KindLemmas
 pub mod WordsSaid
 pub mod Crossing
+pub mod StepLaws

@@ -6,6 +6,7 @@ pub mod CommandTable
 pub mod CommandTold
 pub mod Heads
 pub mod History
+pub mod Kept
 pub mod LineWords
 pub mod ReplyText
 pub mod Selection

@@ -52,7 +52,7 @@ open_session caller state = do
   Ok (record {
     versions = state.versions;
     callers = change_numbered with_opened state.callers caller;
-    sessions = state.sessions ++ record { owner = caller; number = opened_by state caller + 1; version = current state; selection = free } ∷ []
+    sessions = state.sessions ++ record { owner = caller; number = opened_by state caller + 1; version = current state; selection = free } ∷ [];
   })
 
 -- the first session that a test finds, changed

@@ -14,3 +14,5 @@ pub use body::Body;
 pub use body_fault::BodyFault;
 pub use reading::read_body;
 
+#[cfg(test)]
+mod tests;

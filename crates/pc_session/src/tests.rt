@@ -161,7 +161,11 @@ fn a_visit_to_the_bike(rt: HostRuntime) -> Result<(), Fail> {
             session.choose(&variable, &Name::read(value)?)?
         };
         assert_eq!(rt; answer.outcome, *outcome, "row {row}");
-        assert_eq!(rt; answer.listing.is_some(), *outcome == Outcome::Done, "row {row}");
+        assert_eq!(rt;
+            answer.listing.is_some(),
+            *outcome == Outcome::Done,
+            "row {row}"
+        );
         if let Some(listing) = &answer.listing {
             let text = text_of(alloc, &session, listing)?;
             assert_eq!(rt; text.as_slice(), *listed, "row {row}");

@@ -1,0 +1,33 @@
+//! Laws of the definitions. Each function's contract is a law; nothing calls them.
+
+ghost use Rattle.std.specs.Prelude.{◌≡◌, ℕ, ◌≤◌, ◌+◌, true, Some, Ok, All};
+ghost use Rattle.pc_file.specs.Limits.{Contents};
+ghost use Rattle.pc_calls.specs.declared.call.Call.{Call};
+ghost use Rattle.pc_calls.specs.declared.call.Call.TheVariants.{Open};
+ghost use Rattle.pc_calls.specs.History.{is_present};
+ghost use Rattle.pc_calls.specs.Kept.{IsKept};
+ghost use Rattle.pc_calls.specs.State.{State, file_of, opened_by};
+ghost use Rattle.pc_calls.specs.Step.{after, given};
+
+/// The file of a version never changes, whatever is called.
+#[tactic(auto, using(crate::proofs::StepLaws::keeps_file))]
+pub fn versions_keep_their_files()
+    ensures { (caller : ℕ) (call : Call) (state : State) (version : ℕ) (file : Contents)
+        → file_of state version ≡ Some file → file_of (after caller call state) version ≡ Some file }
+{}
+
+/// A session that is open after a call was open before it, of the same owner, number and version; or the call opened
+/// it, at the current version.
+#[tactic(auto, using(crate::proofs::StepLaws::keeps_sessions))]
+pub fn sessions_keep_their_versions()
+    ensures { (caller : ℕ) (call : Call) (state : State) → All (IsKept caller state) (after caller call state).sessions }
+{}
+
+/// No number is given to two sessions of a caller: a new session has the number after those that were given, and how
+/// many were given never falls.
+#[tactic(auto, using(crate::proofs::StepLaws::opened_grows, crate::proofs::StepLaws::open_counts))]
+pub fn numbers_are_given_once()
+    ensures grows { (caller : ℕ) (call : Call) (state : State) (owner : ℕ) → opened_by state owner ≤ opened_by (after caller call state) owner }
+    ensures counts { (caller : ℕ) (state later : State) → is_present state caller ≡ true → given caller Open state ≡ Ok later
+        → opened_by later caller ≡ opened_by state caller + 1 }
+{}
