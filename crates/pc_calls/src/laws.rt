@@ -25,7 +25,7 @@ pub fn sessions_keep_their_versions()
 
 /// No number is given to two sessions of a caller: a new session has the number after those that were given, and how
 /// many were given never falls.
-#[tactic(auto, using(crate::proofs::StepLaws::opened_grows, crate::proofs::StepLaws::open_counts))]
+#[tactic(auto, using(crate::proofs::StepLaws::opened_grows))]
 pub fn numbers_are_given_once()
     ensures grows { (caller : ℕ) (call : Call) (state : State) (owner : ℕ) → opened_by state owner ≤ opened_by (after caller call state) owner }
     ensures counts { (caller : ℕ) (state later : State) → is_present state caller ≡ true → given caller Open state ≡ Ok later
