@@ -4,3 +4,4 @@ pub mod KindLemmas
 pub mod WordsSaid
 pub mod Crossing
 pub mod StepLaws
+pub mod HistoryLemmas

@@ -1,16 +1,15 @@
 -- What reading the text of a publish keeps from line to line.
-use Rattle.std.proofs.Common.{◌≡◌, ℕ, ◌+◌, ◌<◌, ◌≤◌, ◌||◌, Bool, true, false, List, [], ◌∷◌, ◌++◌, length, Option, Some, None, Ok, Err, IsTrue, IfSome, refl, sym, ap, ◌∙◌, arith, length-append, append_assoc}
-use Rattle.std.specs.List.{list_any, flat_map}
+use Rattle.std.proofs.Common.{◌≡◌, ℕ, ◌+◌, ◌<◌, ◌≤◌, Bool, true, false, List, [], ◌∷◌, ◌++◌, length, Option, Some, None, Ok, Err, IsTrue, IfSome, refl, sym, ap, ◌∙◌, subst, zero, arith, length-append, append_assoc}
 use Rattle.std.specs.Io.KnownBytes.{IsAtEnd, prepend_known}
 use Rattle.std.proofs.lemmas.Bool.{both_ways, false_from_ne_true}
 use Rattle.std.proofs.lemmas.List.{append-nil}
-use Rattle.pc_base.specs.Lines.{HasNoFeed, is_feed}
+use Rattle.pc_base.specs.Lines.{HasNoFeed}
 use Rattle.pc_io.specs.declared.line_fault.LineFault.{LineFault}
 use Rattle.pc_io.specs.declared.line_fault.LineFault.TheVariants.{ReadFault}
 use Rattle.pc_io.specs.Aside.{Aside}
 use Rattle.pc_io.specs.Cutter.{Cutter, left_to_give, stream}
 use Rattle.pc_io.specs.NextLine.{answer_to, is_outside_fault, taken}
-use Rattle.pc_io.specs.Took.{Moment, Took, Stopped}
+use Rattle.pc_io.specs.Took.{Moment, Took}
 use Rattle.pc_io.proofs.TookLemmas.{took_nothing, took_line, took_both, stopped_at}
 use Rattle.pc_file.specs.PrintedForm.{with_feed, text_of_lines}
 use Rattle.pc_file.specs.Limits.{Contents}
@@ -21,7 +20,7 @@ use Rattle.pc_text.specs.Given.{contents_given}
 use Rattle.pc_conn.specs.declared.body.Body.{Body}
 use Rattle.pc_conn.specs.declared.body.Body.TheVariants.{File, Fault, NotBuilt, Cut}
 use Rattle.pc_conn.specs.BodyText.{body_of, body_by, sound_body}
-use Rattle.pc_conn.specs.Reading.{IsStopped, IsCut, GivesBody, ReadsBody}
+use Rattle.pc_conn.specs.Reading.{IsStopped, GivesBody, ReadsBody}
 
 -- so far so many lines were taken, and with a line feed each they are the text
 pub record BodySoFar (count n : ℕ) (text : List ℕ) (first : Cutter) (rest_then : Option (List ℕ)) (l : Cutter) (rest : Option (List ℕ)) (faults_then faults : ℕ) (aside_then aside : Aside) : Type 0 where
@@ -31,26 +30,26 @@ pub record BodySoFar (count n : ℕ) (text : List ℕ) (first : Cutter) (rest_th
   pub size : length lines ≡ n
   pub below : n ≤ count
   pub text_is : text ≡ text_of_lines lines
-  pub no_fault : l.fault ≡ None
+  pub no_fault : first.fault ≡ None → l.fault ≡ None
   pub at_end : IsTrue l.ended → IsAtEnd rest
-  pub none_kept : IsTrue l.ended → l.kept ≡ []
+  pub none_kept : (IsTrue first.ended → first.kept ≡ []) → IsTrue l.ended → l.kept ≡ []
   pub within : first.given ≤ first.total_limit → l.given ≤ l.total_limit
   pub stays_ended : IsTrue first.ended → IsTrue l.ended
   pub calm : IsTrue first.ended → l.given ≡ first.given
   pub counted : faults_then ≤ faults
   pub same_aside : aside ≡ aside_then
 
-pub body_begins : (count : ℕ) (l : Cutter) (rest : Option (List ℕ)) (faults : ℕ) (aside : Aside) → l.fault ≡ None → (IsTrue l.ended → IsAtEnd rest) → (IsTrue l.ended → l.kept ≡ []) → BodySoFar count 0 [] l rest l rest faults faults aside aside
-body_begins count l rest faults aside sound at_end none_kept = record {
+pub body_begins : (count : ℕ) (l : Cutter) (rest : Option (List ℕ)) (faults : ℕ) (aside : Aside) → (IsTrue l.ended → IsAtEnd rest) → BodySoFar count 0 [] l rest l rest faults faults aside aside
+body_begins count l rest faults aside at_end = record {
   lines = [];
   bytes = [];
   took = took_nothing (record { cutter = l; rest = rest });
   size = refl;
   below = omega arith;
   text_is = refl;
-  no_fault = sound;
+  no_fault = λ h. h;
   at_end = at_end;
-  none_kept = none_kept;
+  none_kept = λ h. h;
   within = λ h. h;
   stays_ended = λ h. h;
   calm = λ h. refl;
@@ -85,15 +84,43 @@ body_goes_on count n text line first rest_then l rest m mid faults_then faults c
   size = omega (arith, before.size, length-append before.lines (line ∷ []));
   below = omega (arith, room);
   text_is = append_assoc text line (10 ∷ []) ∙ ap (λ (t : List ℕ). t ++ (line ++ 10 ∷ [])) before.text_is ∙ sym (text-more before.lines line);
-  no_fault = told;
+  no_fault = λ h. told;
   at_end = at_end;
-  none_kept = last;
+  none_kept = λ h. last;
   within = λ h. within;
   stays_ended = λ h. absurd (both_ways l.ended going (before.stays_ended h));
   calm = λ h. absurd (both_ways l.ended going (before.stays_ended h));
   counted = omega (arith, count_, before.counted);
   same_aside = same ∙ before.same_aside;
 }
+
+-- Where a fault was told before, no line has been taken since.
+abbrev pub Unmoved : {X : Type 0} → ℕ → Cutter → Cutter → X → X → Type 0
+Unmoved n first l source_then source = IfSome first.fault (λ fault. (n ≡ 0) × (l ≡ first) × (source ≡ source_then))
+
+pub unmoved_begins : {X : Type 0} (l : Cutter) (source : X) → Unmoved 0 l l source source
+unmoved_begins l source = by l.fault
+  where
+    by : (told : Option LineFault) → IfSome told (λ fault. (zero ≡ 0) × (l ≡ l) × (source ≡ source))
+    by None = tt
+    by (Some fault) = (refl, refl, refl)
+
+ok_is_no_err : (line : Option (List ℕ)) (fault : LineFault) → Ok line ≡ Err fault → ⊥
+ok_is_no_err line fault is = cc
+
+-- so none is taken then
+pub unmoved_goes_on : {X : Type 0} (n : ℕ) (line : List ℕ) (first l m : Cutter) (source_then source after : X)
+    → Unmoved n first l source_then source
+    → IfSome l.fault (λ fault. (Ok (Some line) ≡ Err fault) × (m ≡ l) × (after ≡ source))
+    → Unmoved (n + 1) first m source_then after
+unmoved_goes_on n line first l m source_then source after before again = by first.fault refl before
+  where
+    by : (told : Option LineFault) → first.fault ≡ told → IfSome told (λ fault. (n ≡ 0) × (l ≡ first) × (source ≡ source_then)) → IfSome told (λ fault. (n + 1 ≡ 0) × (m ≡ first) × (after ≡ source_then))
+    by None is h = tt
+    by (Some fault) is h =
+        let told : l.fault ≡ Some fault = ap (λ (c : Cutter). c.fault) h.1 ∙ is in
+        let clash = subst (λ t. IfSome t (λ f. (Ok (Some line) ≡ Err f) × (m ≡ l) × (after ≡ source))) told again in
+        absurd (ok_is_no_err (Some line) fault clash.0)
 
 -- a text is never cut
 sound-not_cut : (crowded : Bool) (line : Option ℕ) (file : Contents) → Cut ≡ sound_body crowded line file → ⊥

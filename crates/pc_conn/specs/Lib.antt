@@ -1,3 +1,4 @@
 pub mod Answers
 pub mod BodyText
+pub mod Items
 pub mod Reading

@@ -1,5 +1,5 @@
 -- What reading the text of a publish takes off a source, and what it gives.
-use Rattle.std.specs.Prelude.{◌≡◌, ℕ, ◌<◌, Bool, true, false, List, length, Result, Ok, Err}
+use Rattle.std.specs.Prelude.{◌≡◌, ℕ, ◌<◌, true, false, List, length, None, Result, Ok, Err}
 use Rattle.pc_io.specs.declared.line_fault.LineFault.{LineFault}
 use Rattle.pc_io.specs.Took.{Moment, Took, Stopped}
 use Rattle.pc_file.specs.PrintedForm.{text_of_lines}
@@ -35,11 +35,12 @@ pub record IsStopped (count : ℕ) (fault : LineFault) (before after : Moment) :
   pub fewer : length taken < count
   pub stopped : Stopped fault at after
 
--- a text, the end, or a fault; want of memory tells nothing
+-- A text, the end, or a fault. A fault that was told before is told again, of which a clause of its own speaks; want of
+-- memory tells nothing.
 abbrev pub ReadsBody : ℕ → Result Body BodyFault → Moment → Moment → Type 0
 ReadsBody count (Ok (File file)) before after = GivesBody count (File file) before after
 ReadsBody count (Ok (Fault line kind)) before after = GivesBody count (Fault line kind) before after
 ReadsBody count (Ok (NotBuilt line)) before after = GivesBody count (NotBuilt line) before after
 ReadsBody count (Ok Cut) before after = IsCut count before after
-ReadsBody count (Err (Line fault)) before after = IsStopped count fault before after
+ReadsBody count (Err (Line fault)) before after = before.cutter.fault ≡ None → IsStopped count fault before after
 ReadsBody count (Err NoMemory) before after = Unit {0}

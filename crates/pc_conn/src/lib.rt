@@ -7,11 +7,15 @@ mod answers;
 mod body;
 mod body_fault;
 mod body_text;
+mod hearing;
+mod item;
 mod reading;
 
 pub use answers::{push_bad, push_fault, push_not_built};
 pub use body::Body;
 pub use body_fault::BodyFault;
+pub use hearing::hear;
+pub use item::{Announced, Heard, Item};
 pub use reading::read_body;
 
 #[cfg(test)]

@@ -1,6 +1,6 @@
 //! Reading the text that follows a publish.
 
-ghost use Rattle.std.specs.Prelude.{◌≡◌, ℕ, ◌≤◌, ◌<◌, true, false, List, [], length, IsTrue, IfOk, OnOk, Ok, Err};
+ghost use Rattle.std.specs.Prelude.{◌≡◌, ◌≤◌, ◌<◌, false, [], None, IsTrue, IfOk, IfSome, OnOk, Ok, Err};
 ghost use Rattle.std.specs.Io.KnownBytes.{IsAtEnd};
 ghost use Rattle.pc_base.specs.Rose.{Rose};
 ghost use Rattle.pc_io.specs.declared.line_fault.LineFault.TheVariants.{ReadFault};
@@ -17,7 +17,7 @@ use pc_io::{Lines, Source};
 use std::alloc::Global;
 
 /// The text of the next `count` lines, each with a line feed: the file that it spells, or its first fault. Where the
-/// input ends before, it is cut.
+/// input ends before, it is cut. The lines that were taken stay taken, whatever is answered.
 pub fn read_body<S: Source>(
     alloc: Global,
     lines: &mut Lines,
@@ -25,16 +25,19 @@ pub fn read_body<S: Source>(
     count: u64,
 ) -> Result<Body, BodyFault>
     requires at_end { IsTrue lines.old.ended → IsAtEnd (S.rest source.old) }
-    requires none_kept { IsTrue lines.old.ended → lines.old.kept ≡ [] }
-    requires sound { lines.old.fault ≡ None }
     ensures read { ReadsBody count result
         (record { cutter = lines.old; rest = S.rest source.old })
         (record { cutter = lines.new; rest = S.rest source.new }) }
     ensures few { IfOk result HasFewWords }
-    ensures failed { result ≡ Err (Line ReadFault) → Rose (S.read_faults source.old) (S.read_faults source.new) }
+    ensures failed { lines.old.fault ≡ None → result ≡ Err (Line ReadFault)
+        → Rose (S.read_faults source.old) (S.read_faults source.new) }
     ensures at_end { IsTrue lines.new.ended → IsAtEnd (S.rest source.new) }
-    ensures none_kept { OnOk result (IsTrue lines.new.ended → lines.new.kept ≡ []) }
-    ensures going { OnOk result (lines.new.fault ≡ None) }
+    ensures none_kept { (IsTrue lines.old.ended → lines.old.kept ≡ [])
+        → OnOk result (IsTrue lines.new.ended → lines.new.kept ≡ []) }
+    ensures going { lines.old.fault ≡ None → OnOk result (lines.new.fault ≡ None) }
+    // A fault that was told before is told again, unless there is no line to ask for.
+    ensures again { IfSome lines.old.fault (λ fault. 0 < count → lines.old.ended ≡ false
+        → (result ≡ Err (Line fault)) × (lines.new ≡ lines.old) × (source.new ≡ source.old)) }
     ensures within { lines.old.given ≤ lines.old.total_limit → lines.new.given ≤ lines.new.total_limit }
     // Where the input has ended nothing is taken.
     ensures stays_ended { IsTrue lines.old.ended → IsTrue lines.new.ended }

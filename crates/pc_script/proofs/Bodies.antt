@@ -4,96 +4,96 @@ use Rattle.std.proofs.lemmas.Bool.Decides.{nat_tests}
 use Rattle.std.proofs.lemmas.List.{append-nil}
 use Rattle.pc_calls.specs.State.{State}
 use Rattle.pc_conn.specs.declared.body.Body.TheVariants.{Cut}
-use Rattle.pc_script.specs.declared.item.Announced.{Announced}
+use Rattle.pc_script.specs.declared.item.Awaited.{Awaited}
 use Rattle.pc_script.specs.declared.item.Heard.{Heard}
-use Rattle.pc_script.specs.declared.item.Heard.TheVariants.{Item, Publish}
+use Rattle.pc_script.specs.declared.item.Heard.TheVariants as says
 use Rattle.pc_script.specs.declared.item.Said.{Said}
-use Rattle.pc_script.specs.Heard.{heard, published}
-use Rattle.pc_script.specs.Script.{Script, commanded, publishing, item_text, item_after, is_whole, said_with, body_text, body_after, heard_text, heard_after, answers, after_lines, end_text, last_answers}
+use Rattle.pc_script.specs.Heard.{heard, said_with}
+use Rattle.pc_script.specs.Script.{Script, commanded, publishing, said_text, said_after, is_whole, said_of, body_text, body_after, heard_text, heard_after, answers, after_lines, end_text, last_answers}
 
-module _ (state : State) (head : Announced) where
-  text-whole : (done : List (List ℕ)) → is_whole head done ≡ true → body_text state head done ≡ item_text state (said_with head done)
-  text-whole done e = ap (λ (b : Bool). cond b (item_text state (said_with head done)) []) e
+module _ (state : State) (awaited : Awaited) where
+  text-whole : (done : List (List ℕ)) → is_whole awaited done ≡ true → body_text state awaited done ≡ said_text state (said_of awaited done)
+  text-whole done e = ap (λ (b : Bool). cond b (said_text state (said_of awaited done)) []) e
 
-  after-whole : (done : List (List ℕ)) → is_whole head done ≡ true → body_after state head done ≡ commanded (item_after state (said_with head done))
-  after-whole done e = ap (λ (b : Bool). cond b (commanded (item_after state (said_with head done))) (publishing state head done)) e
+  after-whole : (done : List (List ℕ)) → is_whole awaited done ≡ true → body_after state awaited done ≡ commanded (said_after state (said_of awaited done))
+  after-whole done e = ap (λ (b : Bool). cond b (commanded (said_after state (said_of awaited done))) (publishing state awaited done)) e
 
-  text-part : (done : List (List ℕ)) → is_whole head done ≡ false → body_text state head done ≡ []
-  text-part done e = ap (λ (b : Bool). cond b (item_text state (said_with head done)) []) e
+  text-part : (done : List (List ℕ)) → is_whole awaited done ≡ false → body_text state awaited done ≡ []
+  text-part done e = ap (λ (b : Bool). cond b (said_text state (said_of awaited done)) []) e
 
-  after-part : (done : List (List ℕ)) → is_whole head done ≡ false → body_after state head done ≡ publishing state head done
-  after-part done e = ap (λ (b : Bool). cond b (commanded (item_after state (said_with head done))) (publishing state head done)) e
+  after-part : (done : List (List ℕ)) → is_whole awaited done ≡ false → body_after state awaited done ≡ publishing state awaited done
+  after-part done e = ap (λ (b : Bool). cond b (commanded (said_after state (said_of awaited done))) (publishing state awaited done)) e
 
   -- what is answered to a publish with some lines of its text, and to those that follow
   abbrev from_body : List (List ℕ) → List (List ℕ) → List ℕ
-  from_body done rest = body_text state head done ++ answers (body_after state head done) rest
+  from_body done rest = body_text state awaited done ++ answers (body_after state awaited done) rest
 
-  from-nothing : (done : List (List ℕ)) → from_body done [] ≡ body_text state head done
+  from-nothing : (done : List (List ℕ)) → from_body done [] ≡ body_text state awaited done
   unfolding answers
-  from-nothing done = append-nil (body_text state head done)
+  from-nothing done = append-nil (body_text state awaited done)
 
-  from-more : (done : List (List ℕ)) (line : List ℕ) (rest : List (List ℕ)) → is_whole head done ≡ false → from_body done (line ∷ rest) ≡ from_body (done ++ line ∷ []) rest
+  from-more : (done : List (List ℕ)) (line : List ℕ) (rest : List (List ℕ)) → is_whole awaited done ≡ false → from_body done (line ∷ rest) ≡ from_body (done ++ line ∷ []) rest
   unfolding answers
   from-more done line rest part =
-      ap (λ (t : List ℕ). t ++ answers (body_after state head done) (line ∷ rest)) (text-part done part)
+      ap (λ (t : List ℕ). t ++ answers (body_after state awaited done) (line ∷ rest)) (text-part done part)
       ∙ ap (λ (s : Script). answers s (line ∷ rest)) (after-part done part)
 
-  after-none : (done : List (List ℕ)) → after_lines (body_after state head done) [] ≡ body_after state head done
+  after-none : (done : List (List ℕ)) → after_lines (body_after state awaited done) [] ≡ body_after state awaited done
   unfolding after_lines
   after-none done = refl
 
-  after-more : (done : List (List ℕ)) (line : List ℕ) (rest : List (List ℕ)) → is_whole head done ≡ false → after_lines (body_after state head done) (line ∷ rest) ≡ after_lines (body_after state head (done ++ line ∷ [])) rest
+  after-more : (done : List (List ℕ)) (line : List ℕ) (rest : List (List ℕ)) → is_whole awaited done ≡ false → after_lines (body_after state awaited done) (line ∷ rest) ≡ after_lines (body_after state awaited (done ++ line ∷ [])) rest
   unfolding after_lines
   after-more done line rest part = ap (λ (s : Script). after_lines s (line ∷ rest)) (after-part done part)
 
-  pub body-text : (done rest : List (List ℕ)) → length done + length rest ≡ head.lines → from_body done rest ≡ item_text state (said_with head (done ++ rest))
+  pub body-text : (done rest : List (List ℕ)) → length done + length rest ≡ awaited.publish.lines → from_body done rest ≡ said_text state (said_of awaited (done ++ rest))
   body-text done [] all =
-      from-nothing done ∙ text-whole done (grind (arith, nat_tests, all)) ∙ ap (λ (ls : List (List ℕ)). item_text state (said_with head ls)) (sym (append-nil done))
+      from-nothing done ∙ text-whole done (grind (arith, nat_tests, all)) ∙ ap (λ (ls : List (List ℕ)). said_text state (said_of awaited ls)) (sym (append-nil done))
   body-text done (line ∷ rest) all =
       from-more done line rest (grind (arith, nat_tests, all))
       ∙ body-text (done ++ line ∷ []) rest (omega (arith, all, length-append done (line ∷ [])))
-      ∙ ap (λ (ls : List (List ℕ)). item_text state (said_with head ls)) (append_assoc done (line ∷ []) rest)
+      ∙ ap (λ (ls : List (List ℕ)). said_text state (said_of awaited ls)) (append_assoc done (line ∷ []) rest)
 
-  pub body-after : (done rest : List (List ℕ)) → length done + length rest ≡ head.lines → after_lines (body_after state head done) rest ≡ commanded (item_after state (said_with head (done ++ rest)))
+  pub body-after : (done rest : List (List ℕ)) → length done + length rest ≡ awaited.publish.lines → after_lines (body_after state awaited done) rest ≡ commanded (said_after state (said_of awaited (done ++ rest)))
   body-after done [] all =
-      after-none done ∙ after-whole done (grind (arith, nat_tests, all)) ∙ ap (λ (ls : List (List ℕ)). commanded (item_after state (said_with head ls))) (sym (append-nil done))
+      after-none done ∙ after-whole done (grind (arith, nat_tests, all)) ∙ ap (λ (ls : List (List ℕ)). commanded (said_after state (said_of awaited ls))) (sym (append-nil done))
   body-after done (line ∷ rest) all =
       after-more done line rest (grind (arith, nat_tests, all))
       ∙ body-after (done ++ line ∷ []) rest (omega (arith, all, length-append done (line ∷ [])))
-      ∙ ap (λ (ls : List (List ℕ)). commanded (item_after state (said_with head ls))) (append_assoc done (line ∷ []) rest)
+      ∙ ap (λ (ls : List (List ℕ)). commanded (said_after state (said_of awaited ls))) (append_assoc done (line ∷ []) rest)
 
-  pub part-text : (done rest : List (List ℕ)) → length done + length rest < head.lines → from_body done rest ≡ []
+  pub part-text : (done rest : List (List ℕ)) → length done + length rest < awaited.publish.lines → from_body done rest ≡ []
   part-text done [] few = from-nothing done ∙ text-part done (grind (arith, nat_tests, few))
   part-text done (line ∷ rest) few =
       from-more done line rest (grind (arith, nat_tests, few)) ∙ part-text (done ++ line ∷ []) rest (omega (arith, few, length-append done (line ∷ [])))
 
-  pub part-after : (done rest : List (List ℕ)) → length done + length rest < head.lines → after_lines (body_after state head done) rest ≡ publishing state head (done ++ rest)
-  part-after done [] few = after-none done ∙ after-part done (grind (arith, nat_tests, few)) ∙ ap (publishing state head) (sym (append-nil done))
+  pub part-after : (done rest : List (List ℕ)) → length done + length rest < awaited.publish.lines → after_lines (body_after state awaited done) rest ≡ publishing state awaited (done ++ rest)
+  part-after done [] few = after-none done ∙ after-part done (grind (arith, nat_tests, few)) ∙ ap (publishing state awaited) (sym (append-nil done))
   part-after done (line ∷ rest) few =
       after-more done line rest (grind (arith, nat_tests, few))
       ∙ part-after (done ++ line ∷ []) rest (omega (arith, few, length-append done (line ∷ [])))
-      ∙ ap (publishing state head) (append_assoc done (line ∷ []) rest)
+      ∙ ap (publishing state awaited) (append_assoc done (line ∷ []) rest)
 
 -- the line of a publish, and the lines after it
-pub announced-text : (state : State) (head : Announced) (line : List ℕ) (rest : List (List ℕ)) → heard state line ≡ Publish head → answers (commanded state) (line ∷ rest) ≡ body_text state head [] ++ answers (body_after state head []) rest
+pub announced-text : (state : State) (awaited : Awaited) (line : List ℕ) (rest : List (List ℕ)) → heard state line ≡ says.Publish awaited → answers (commanded state) (line ∷ rest) ≡ body_text state awaited [] ++ answers (body_after state awaited []) rest
 unfolding answers
-announced-text state head line rest e = ap (λ (h : Heard). heard_text state h ++ answers (heard_after state h) rest) e
+announced-text state awaited line rest e = ap (λ (h : Heard). heard_text state h ++ answers (heard_after state h) rest) e
 
-pub announced-after : (state : State) (head : Announced) (line : List ℕ) (rest : List (List ℕ)) → heard state line ≡ Publish head → after_lines (commanded state) (line ∷ rest) ≡ after_lines (body_after state head []) rest
+pub announced-after : (state : State) (awaited : Awaited) (line : List ℕ) (rest : List (List ℕ)) → heard state line ≡ says.Publish awaited → after_lines (commanded state) (line ∷ rest) ≡ after_lines (body_after state awaited []) rest
 unfolding after_lines
-announced-after state head line rest e = ap (λ (h : Heard). after_lines (heard_after state h) rest) e
+announced-after state awaited line rest e = ap (λ (h : Heard). after_lines (heard_after state h) rest) e
 
--- the line of an item
-pub said-text : (state : State) (said : Said) (line : List ℕ) → heard state line ≡ Item said → answers (commanded state) (line ∷ []) ≡ item_text state said
+-- a line that is answered at once
+pub one-text : (state : State) (said : Said) (line : List ℕ) → heard state line ≡ says.Said said → answers (commanded state) (line ∷ []) ≡ said_text state said
 unfolding answers
-said-text state said line e = ap (λ (h : Heard). heard_text state h ++ []) e ∙ append-nil (item_text state said)
+one-text state said line e = ap (λ (h : Heard). heard_text state h ++ []) e ∙ append-nil (said_text state said)
 
-pub said-after : (state : State) (said : Said) (line : List ℕ) → heard state line ≡ Item said → after_lines (commanded state) (line ∷ []) ≡ commanded (item_after state said)
+pub one-after : (state : State) (said : Said) (line : List ℕ) → heard state line ≡ says.Said said → after_lines (commanded state) (line ∷ []) ≡ commanded (said_after state said)
 unfolding after_lines
-said-after state said line e = ap (λ (h : Heard). heard_after state h) e
+one-after state said line e = ap (λ (h : Heard). heard_after state h) e
 
 -- a publish that is cut
-pub cut-text : (state : State) (head : Announced) (line : List ℕ) (rest : List (List ℕ)) → heard state line ≡ Publish head → length rest < head.lines → last_answers (commanded state) (line ∷ rest) ≡ item_text state (published head Cut)
-cut-text state head line rest e few =
-    ap (λ (t : List ℕ). t ++ end_text (after_lines (commanded state) (line ∷ rest))) (announced-text state head line rest e ∙ part-text state head [] rest (omega (arith, few)))
-    ∙ ap end_text (announced-after state head line rest e ∙ part-after state head [] rest (omega (arith, few)))
+pub cut-text : (state : State) (awaited : Awaited) (line : List ℕ) (rest : List (List ℕ)) → heard state line ≡ says.Publish awaited → length rest < awaited.publish.lines → last_answers (commanded state) (line ∷ rest) ≡ said_text state (said_with awaited Cut)
+cut-text state awaited line rest e few =
+    ap (λ (t : List ℕ). t ++ end_text (after_lines (commanded state) (line ∷ rest))) (announced-text state awaited line rest e ∙ part-text state awaited [] rest (omega (arith, few)))
+    ∙ ap end_text (announced-after state awaited line rest e ∙ part-after state awaited [] rest (omega (arith, few)))

@@ -1,9 +1,12 @@
 pub mod AnswerLemmas
 pub mod Bodies
 pub mod HeardNext
+pub mod LegalScripts
 pub mod MadeCalls
 pub mod Places
 pub mod ScriptRun
+pub mod ScriptTexts
+pub mod ScriptTurns
 pub mod ShopCalls
 pub mod ShopKeeps
 pub mod ShopSteps

@@ -23,7 +23,7 @@ use Rattle.pc_script.specs.declared.script_end.ScriptEnd.{ScriptEnd}
 use Rattle.pc_script.specs.declared.script_end.ScriptEnd.TheVariants as ScriptFault
 use Rattle.pc_script.specs.declared.turn.Turn.{Turn}
 use Rattle.pc_script.specs.declared.turn.Turn.TheVariants.{Going, Last}
-use Rattle.pc_script.specs.Script.{Script, commanded, beginning, answers, answers_to, after_lines, last_answers, script_text, item_text, item_after}
+use Rattle.pc_script.specs.Script.{Script, commanded, beginning, answers, answers_to, after_lines, last_answers, script_text, said_text, said_after}
 use Rattle.pc_script.specs.ScriptOutcome.{broken, AnswersAll, AnswersBefore, AnswersRead, AnswersSome, LeavesBy}
 use Rattle.pc_script.specs.Turns.{SaysNext, SaysLast, SaysNothing, HearsNone, HearsLimit, HearsTurn, Hears, Writes}
 use Rattle.pc_script.proofs.AnswerLemmas.{answers-append, after-append, last-append, last-nothing, after-nothing, answers-nothing, last-commanded, script_text-is}
@@ -91,8 +91,8 @@ module _ (l : Cutter) (state : State) (rest_then rest written_then written : Opt
   pub script_goes_on : (m : Cutter) (later : State) (said : Said) (mid new : Option (List ℕ)) (reads_now writes_now : ℕ) (read_aside_now write_aside_now : Aside)
       → l.ended ≡ false
       → SaysNext state said (at l rest) (at m mid)
-      → later ≡ item_after state said
-      → new ≡ append_known written (item_text state said)
+      → later ≡ said_after state said
+      → new ≡ append_known written (said_text state said)
       → opened_by later 1 ≤ opened_by state 1 + 1
       → m.fault ≡ None
       → (IsTrue m.ended → IsAtEnd mid)
@@ -110,8 +110,8 @@ module _ (l : Cutter) (state : State) (rest_then rest written_then written : Opt
     within = within;
     then = after-append beginning so_far.taken says.taken ∙ ap (λ (s : Script). after_lines s says.taken) so_far.then ∙ says.then ∙ ap commanded (sym is);
     written_is =
-        written_on written_then written new (answers_to so_far.taken) (item_text state said) so_far.written_is text
-        ∙ ap (append_known written_then) (sym (more_answers so_far.taken says.taken state (item_text state said) so_far.then says.text));
+        written_on written_then written new (answers_to so_far.taken) (said_text state said) so_far.written_is text
+        ∙ ap (append_known written_then) (sym (more_answers so_far.taken says.taken state (said_text state said) so_far.then says.text));
     opened = omega (arith, opened, so_far.opened, says.took.given, says.took.rising, says.some);
     reads_counted = omega (arith, so_far.reads_counted, reads_more);
     writes_counted = omega (arith, so_far.writes_counted, writes_more);
@@ -170,12 +170,12 @@ module _ (l : Cutter) (state : State) (rest_then rest written_then written : Opt
       (so_far.written_is ∙ ap (append_known written_then) (sym (more_last so_far.taken [] state [] so_far.then (last-nothing state) ∙ append-nil (answers_to so_far.taken))))
 
   -- the last lines were answered
-  pub script_says_last : (m : Cutter) (said : Said) (mid new : Option (List ℕ)) (reads_now writes_now : ℕ) → l.ended ≡ false → SaysLast state said (at l rest) (at m mid) → new ≡ append_known written (item_text state said) → (IsTrue m.ended → m.kept ≡ []) → (IsTrue m.ended → IsAtEnd mid)
+  pub script_says_last : (m : Cutter) (said : Said) (mid new : Option (List ℕ)) (reads_now writes_now : ℕ) → l.ended ≡ false → SaysLast state said (at l rest) (at m mid) → new ≡ append_known written (said_text state said) → (IsTrue m.ended → m.kept ≡ []) → (IsTrue m.ended → IsAtEnd mid)
       → AnswersAll (record { rest = rest_then; read_faults = reads_then; written = written_then; write_faults = writes_then }) (record { rest = mid; read_faults = reads_now; written = new; write_faults = writes_now })
   script_says_last m said mid new reads_now writes_now going says text none end =
       all_answered (so_far.taken ++ says.taken) (so_far.bytes ++ says.bytes) m rest_then mid written_then new reads_then reads_now writes_then writes_now
       (took_both so_far.taken says.taken so_far.bytes says.bytes (at first rest_then) (at l rest) (at m mid) going so_far.took says.took) (none says.ended) (end says.ended)
-      (written_on written_then written new (answers_to so_far.taken) (item_text state said) so_far.written_is text ∙ ap (append_known written_then) (sym (more_last so_far.taken says.taken state (item_text state said) so_far.then says.text)))
+      (written_on written_then written new (answers_to so_far.taken) (said_text state said) so_far.written_is text ∙ ap (append_known written_then) (sym (more_last so_far.taken says.taken state (said_text state said) so_far.then says.text)))
 
   -- a read failed
   pub script_read_fails : (m : Cutter) (mid : Option (List ℕ)) (reads_now writes_now : ℕ) → l.ended ≡ false → HearsNone state line.ReadFault (at l rest) (at m mid)
@@ -233,7 +233,7 @@ module _ (l : Cutter) (state : State) (rest_then rest written_then written : Opt
 
   -- the text of the whole script goes on with what was said
   goes_on_with : (all : List ℕ) (said : Said) (turn : Turn) (m : Cutter) (mid : Option (List ℕ)) → rest_then ≡ Some all → l.ended ≡ false → HearsTurn state said turn (at l rest) (at m mid) → (IsTrue m.ended → m.kept ≡ []) → (IsTrue m.ended → IsAtEnd mid)
-      → (more : List ℕ) × (script_text all ≡ answers_to so_far.taken ++ (item_text state said ++ more))
+      → (more : List ℕ) × (script_text all ≡ answers_to so_far.taken ++ (said_text state said ++ more))
   goes_on_with all said Going m mid told going says none end =
       let took = took_both so_far.taken says.taken so_far.bytes says.bytes (at first rest_then) (at l rest) (at m mid) going so_far.took says.took in
       let later = told_later all (so_far.bytes ++ says.bytes) (coming (at m mid)) (sym told ∙ prepend_none rest_then ∙ took.read) in
@@ -241,8 +241,8 @@ module _ (l : Cutter) (state : State) (rest_then rest written_then written : Opt
       let more : List ℕ = last_answers (after_lines beginning (so_far.taken ++ says.taken)) (lines later.0) in (
         more,
         script_text-is all ∙ ap (last_answers beginning) cut ∙ last-append beginning (so_far.taken ++ says.taken) (lines later.0)
-            ∙ ap (λ (t : List ℕ). t ++ more) (more_answers so_far.taken says.taken state (item_text state said) so_far.then says.text)
-            ∙ append_assoc (answers_to so_far.taken) (item_text state said) more,
+            ∙ ap (λ (t : List ℕ). t ++ more) (more_answers so_far.taken says.taken state (said_text state said) so_far.then says.text)
+            ∙ append_assoc (answers_to so_far.taken) (said_text state said) more,
       )
   goes_on_with all said Last m mid told going says none end =
       let took = took_both so_far.taken says.taken so_far.bytes says.bytes (at first rest_then) (at l rest) (at m mid) going so_far.took says.took in
@@ -252,15 +252,15 @@ module _ (l : Cutter) (state : State) (rest_then rest written_then written : Opt
         [],
         script_text-is all ∙ ap (λ (b : List ℕ). last_answers beginning (lines b)) whole
             ∙ ap (last_answers beginning) (lines-all (so_far.taken ++ says.taken) (so_far.bytes ++ says.bytes) (at first rest_then) (at m mid) took)
-            ∙ more_last so_far.taken says.taken state (item_text state said) so_far.then says.text
-            ∙ ap (λ (t : List ℕ). answers_to so_far.taken ++ t) (sym (append-nil (item_text state said))),
+            ∙ more_last so_far.taken says.taken state (said_text state said) so_far.then says.text
+            ∙ ap (λ (t : List ℕ). answers_to so_far.taken ++ t) (sym (append-nil (said_text state said))),
       )
 
   part_of : (all : List ℕ) (said : Said) (turn : Turn) (m : Cutter) (mid new : Option (List ℕ)) → rest_then ≡ Some all → l.ended ≡ false → HearsTurn state said turn (at l rest) (at m mid) → (IsTrue m.ended → m.kept ≡ []) → (IsTrue m.ended → IsAtEnd mid)
-      → GrewByPart (item_text state said) written new → GrewByPart (script_text all) written_then new
+      → GrewByPart (said_text state said) written new → GrewByPart (script_text all) written_then new
   part_of all said turn m mid new told going says none end part =
       let more = goes_on_with all said turn m mid told going says none end in
-      let text = item_text state said in
+      let text = said_text state said in
       let before = answers_to so_far.taken in
       let size : length (script_text all) ≡ length before + length (text ++ more.0) = ap length more.1 ∙ length-append before (text ++ more.0) in
       let front : take (length before + part.0) (script_text all) ≡ before ++ take part.0 text =
@@ -305,7 +305,7 @@ module _ (l : Cutter) (state : State) (rest_then rest written_then written : Opt
   -- what was heard isn't answered
   pub script_unanswered : (end : ScriptEnd) (said : Said) (turn : Turn) (m : Cutter) (mid new : Option (List ℕ)) (reads_now writes_now : ℕ) → l.ended ≡ false → HearsTurn state said turn (at l rest) (at m mid)
       → (IsTrue m.ended → m.kept ≡ []) → (IsTrue m.ended → IsAtEnd mid)
-      → Writes (item_text state said) (Err end) written new writes writes_now
+      → Writes (said_text state said) (Err end) written new writes writes_now
       → LeavesBy (Err end) (record { rest = rest_then; read_faults = reads_then; written = written_then; write_faults = writes_then }) (record { rest = mid; read_faults = reads_now; written = new; write_faults = writes_now })
   script_unanswered ScriptFault.Ended said turn m mid new reads_now writes_now going hears none at_end writes_so = elim writes_so [ ]
   script_unanswered ScriptFault.ReadFault said turn m mid new reads_now writes_now going hears none at_end writes_so = elim writes_so [ ]

@@ -1,23 +1,21 @@
 -- What a line of a script says. It is `CALLER COMMAND`.
-use Rattle.std.specs.Prelude.{ℕ, ◌+◌, ◌&&◌, not, nat_le, Bool, true, false, if◌then◌else◌, List, [], ◌∷◌, length, Option, Some, None, option_map, unwrap_or, Result, Ok, Err}
-use Rattle.pc_calls.specs.declared.bad_column.BadColumn.{BadColumn}
-use Rattle.pc_calls.specs.declared.call.Call.TheVariants as call
+use Rattle.std.specs.Prelude.{ℕ, ◌+◌, ◌&&◌, not, nat_le, Bool, true, false, if◌then◌else◌, List, [], ◌∷◌, length, Option, Some, None, option_map, unwrap_or}
 use Rattle.pc_calls.specs.declared.command.Command.{Command}
 use Rattle.pc_calls.specs.declared.command.Command.TheVariants as command
-use Rattle.pc_calls.specs.declared.line_call.LineCall.{LineCall}
-use Rattle.pc_calls.specs.declared.line_call.LineCall.TheVariants.{Whole, PublishHead}
-use Rattle.pc_calls.specs.CommandLine.{command_of, line_call}
+use Rattle.pc_calls.specs.CommandLine.{command_of}
 use Rattle.pc_calls.specs.CommandReader.{unsigned_of}
 use Rattle.pc_calls.specs.LineWords.{Word, words_from, end_of}
 use Rattle.pc_calls.specs.State.{State, numbered}
 use Rattle.pc_conn.specs.declared.body.Body.{Body}
-use Rattle.pc_conn.specs.declared.body.Body.TheVariants.{File, Fault, NotBuilt, Cut}
-use Rattle.pc_script.specs.declared.item.Announced.{Announced}
+use Rattle.pc_conn.specs.declared.item.Heard.{Heard as HeardWords}
+use Rattle.pc_conn.specs.declared.item.Heard.TheVariants as words
+use Rattle.pc_conn.specs.declared.item.Item.TheVariants.{Bad}
+use Rattle.pc_conn.specs.Items.{published}
+use Rattle.pc_conn.specs.Items.{heard as heard_words}
+use Rattle.pc_script.specs.declared.item.Awaited.{Awaited}
 use Rattle.pc_script.specs.declared.item.Heard.{Heard}
-use Rattle.pc_script.specs.declared.item.Heard.TheVariants.{Item, Publish}
+use Rattle.pc_script.specs.declared.item.Heard.TheVariants as says
 use Rattle.pc_script.specs.declared.item.Said.{Said}
-use Rattle.pc_script.specs.declared.item.Said.TheVariants.{Asks, Bad}
-use Rattle.pc_script.specs.declared.item.Said.TheVariants as said
 
 -- so many callers may speak
 abbrev pub most_callers : ℕ
@@ -48,33 +46,33 @@ is_later (Some command.Reclaim) = true
 is_later (Some command.Versions) = true
 is_later command = false
 
--- what the words after CALLER say
-abbrev pub heard_call : ℕ → ℕ → Result LineCall BadColumn → Heard
-heard_call caller line_length (Ok (Whole call)) = Item (Asks caller call)
-heard_call caller line_length (Ok (PublishHead base lines)) = Publish (record { caller = caller; base = base; lines = lines; end_column = line_length + 1 })
-heard_call caller line_length (Err bad_column) = Item (Bad caller bad_column.column)
+-- a caller's line has its first wrong word, or lacks one, at this column; the caller is 0 where none may speak
+abbrev pub bad_at : ℕ → ℕ → Heard
+bad_at caller column = says.Said (record { caller = caller; item = Bad column })
+
+-- what words say, as a caller's
+abbrev pub of_caller : ℕ → HeardWords → Heard
+of_caller caller (words.Item item) = says.Said (record { caller = caller; item = item })
+of_caller caller (words.Publish publish) = says.Publish (record { caller = caller; publish = publish })
 
 -- the word of a command, where the script doesn't know it yet, is the first wrong word
 abbrev pub heard_command : ℕ → List ℕ → ℕ → List Word → Heard
-heard_command caller line from [] = heard_call caller (length line) (line_call line from)
+heard_command caller line from [] = of_caller caller (heard_words line from)
 heard_command caller line from (word ∷ words) =
-    if is_later (command_of word.bytes) then Item (Bad caller (word.place + 1)) else heard_call caller (length line) (line_call line from)
+    if is_later (command_of word.bytes) then bad_at caller (word.place + 1) else of_caller caller (heard_words line from)
 
 abbrev pub heard_after : Option ℕ → List ℕ → Word → Heard
-heard_after None line word = Item (Bad 0 (word.place + 1))
+heard_after None line word = bad_at 0 (word.place + 1)
 heard_after (Some caller) line word = heard_command caller line (end_of word) (words_from line (end_of word))
 
-abbrev pub heard_words : State → List ℕ → List Word → Heard
-heard_words state line [] = Item (Bad 0 (length line + 1))
-heard_words state line (word ∷ words) = heard_after (caller_of state word.bytes) line word
+abbrev pub heard_from : State → List ℕ → List Word → Heard
+heard_from state line [] = bad_at 0 (length line + 1)
+heard_from state line (word ∷ words) = heard_after (caller_of state word.bytes) line word
 
 -- what a line says to callers in this state
 unfoldable pub heard : State → List ℕ → Heard
-heard state line = heard_words state line (words_from line 0)
+heard state line = heard_from state line (words_from line 0)
 
 -- what a publish says with its text
-abbrev pub published : Announced → Body → Said
-published head (File file) = Asks head.caller (call.Publish head.base file)
-published head (Fault line kind) = said.Fault head.caller line kind
-published head (NotBuilt line) = said.NotBuilt head.caller line
-published head Cut = Bad head.caller head.end_column
+abbrev pub said_with : Awaited → Body → Said
+said_with awaited body = record { caller = awaited.caller; item = published awaited.publish body }

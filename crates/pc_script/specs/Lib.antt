@@ -2,6 +2,7 @@ pub mod Ends
 pub mod Heard
 pub mod Made
 pub mod Script
+pub mod ScriptHistory
 pub mod ScriptOutcome
 pub mod ShopState
 pub mod Turns

@@ -16,7 +16,7 @@ use Rattle.pc_script.specs.declared.script_end.ScriptEnd.TheVariants.{Ended, Rea
 use Rattle.pc_script.specs.declared.turn.Next.{Next}
 use Rattle.pc_script.specs.declared.turn.Turn.{Turn}
 use Rattle.pc_script.specs.declared.turn.Turn.TheVariants.{Going, Last}
-use Rattle.pc_script.specs.Script.{commanded, answers, after_lines, last_answers, item_text, item_after}
+use Rattle.pc_script.specs.Script.{commanded, answers, after_lines, last_answers, said_text, said_after}
 
 -- lines were taken that say this, and a command comes next
 pub record SaysNext (state : State) (said : Said) (before after : Moment) : Type 0 where
@@ -24,8 +24,8 @@ pub record SaysNext (state : State) (said : Said) (before after : Moment) : Type
   pub bytes : List ℕ
   pub took : Took taken bytes before after
   pub some : 1 ≤ length taken
-  pub text : answers (commanded state) taken ≡ item_text state said
-  pub then : after_lines (commanded state) taken ≡ commanded (item_after state said)
+  pub text : answers (commanded state) taken ≡ said_text state said
+  pub then : after_lines (commanded state) taken ≡ commanded (said_after state said)
 
 -- the last lines were taken, which say this where nothing comes after them
 pub record SaysLast (state : State) (said : Said) (before after : Moment) : Type 0 where
@@ -33,7 +33,7 @@ pub record SaysLast (state : State) (said : Said) (before after : Moment) : Type
   pub bytes : List ℕ
   pub took : Took taken bytes before after
   pub ended : after.cutter.ended ≡ true
-  pub text : last_answers (commanded state) taken ≡ item_text state said
+  pub text : last_answers (commanded state) taken ≡ said_text state said
 
 -- nothing was left to take
 pub record SaysNothing (before after : Moment) : Type 0 where

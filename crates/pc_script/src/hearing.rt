@@ -40,15 +40,15 @@ pub fn hear_next<S: Source>(
         return Ok(None);
     };
     match shop.hear(&line) {
-        Heard::Item(said) => Ok(Some(Next {
+        Heard::Said(said) => Ok(Some(Next {
             said,
             turn: Turn::Going,
         })),
-        Heard::Publish(announced) => {
-            let body = read_body(alloc, lines, source, announced.lines)?;
+        Heard::Publish(awaited) => {
+            let body = read_body(alloc, lines, source, awaited.publish.lines)?;
             let turn = turn_after(&body);
             Ok(Some(Next {
-                said: announced.with(body),
+                said: awaited.with(body),
                 turn,
             }))
         }

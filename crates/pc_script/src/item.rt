@@ -1,65 +1,57 @@
 //! What the lines of a script say.
 
-use pc_calls::Call;
-use pc_conn::Body;
-use pc_text::Kind;
+use pc_conn::{Announced, Body, Item};
 
-/// What is answered at once. The caller is 0 where the line names none that may speak.
+/// What is answered at once, and whose it is: 0 where the line names none that may speak.
 #[derive(Debug, Drop)]
-pub enum Said {
-    /// A call.
-    Asks { caller: u64, call: Call },
-    /// The first wrong word begins at this column, counted from 1.
-    Bad { caller: u64, column: u64 },
-    /// The text of a publish has its first fault on this line, counted from 1.
-    Fault { caller: u64, line: u64, kind: Kind },
-    /// The file of a publish has too many words for the plain list from this line on.
-    NotBuilt { caller: u64, line: u64 },
+pub struct Said {
+    pub caller: u64,
+    pub item: Item,
 }
 
-/// A publish whose text is to follow on so many lines: its caller, the version that it knew, and the column right
-/// after its own line.
+/// A publish of a caller, whose text is to follow.
 #[derive(Clone, Copy, Debug)]
-pub struct Announced {
+pub struct Awaited {
     pub caller: u64,
-    pub base: u64,
-    pub lines: u64,
-    pub end_column: u64,
+    pub publish: Announced,
 }
 
 /// What a line says.
 #[derive(Debug, Drop)]
 pub enum Heard {
-    Item(Said),
-    Publish(Announced),
+    Said(Said),
+    Publish(Awaited),
 }
 
-impl Announced {
+impl Heard {
+    ghost use Rattle.std.specs.Prelude.{◌≡◌};
+    ghost use Rattle.pc_script.specs.Heard.{of_caller};
+
+    /// What the words after CALLER say, as that caller's.
+    pub fn of(caller: u64, heard: pc_conn::Heard) -> Heard
+        ensures { result ≡ of_caller caller heard }
+    {
+        match heard {
+            pc_conn::Heard::Item(item) => Heard::Said(Said { caller, item }),
+            pc_conn::Heard::Publish(publish) => Heard::Publish(Awaited { caller, publish }),
+        }
+    }
+}
+
+impl Awaited {
     ghost use Rattle.std.specs.Prelude.{◌≡◌};
     ghost use Rattle.pc_conn.specs.BodyText.{HasFewWords};
-    ghost use Rattle.pc_script.specs.Heard.{published};
+    ghost use Rattle.pc_script.specs.Heard.{said_with};
     ghost use Rattle.pc_script.specs.Made.{IsMade};
 
     /// What the publish says with its text.
     pub fn with(self, body: Body) -> Said
-        ensures said { result ≡ published self body }
+        ensures said { result ≡ said_with self body }
         ensures made { self.caller ≡ 1 → HasFewWords body → IsMade result }
     {
-        let caller = self.caller;
-        match body {
-            Body::File(file) => Said::Asks {
-                caller,
-                call: Call::Publish {
-                    base: self.base,
-                    file,
-                },
-            },
-            Body::Fault { line, kind } => Said::Fault { caller, line, kind },
-            Body::NotBuilt { line } => Said::NotBuilt { caller, line },
-            Body::Cut => Said::Bad {
-                caller,
-                column: self.end_column,
-            },
+        Said {
+            caller: self.caller,
+            item: self.publish.with(body),
         }
     }
 }

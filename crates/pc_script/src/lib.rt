@@ -5,12 +5,14 @@
 mod guest;
 mod hearing;
 mod item;
+mod laws;
 mod running;
 mod script_end;
 mod shop;
 mod speaking;
 mod turn;
 
+pub use laws::{scripts_answer_by_their_histories, scripts_are_legal_histories};
 pub use running::run_script;
 pub use script_end::ScriptEnd;
 

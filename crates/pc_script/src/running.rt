@@ -3,7 +3,7 @@
 ghost use Rattle.std.specs.Prelude.{◌≡◌, ◌≤◌, ◌<◌, ◌+◌, ◌^◌, OnOk};
 ghost use Rattle.pc_calls.specs.State.{opened_by};
 ghost use Rattle.pc_script.specs.Made.{IsMade};
-ghost use Rattle.pc_script.specs.Script.{item_after, item_text};
+ghost use Rattle.pc_script.specs.Script.{said_after, said_text};
 ghost use Rattle.pc_script.specs.ScriptOutcome.{Leaves, LeavesBy};
 ghost use Rattle.pc_script.specs.Turns.{Writes};
 
@@ -71,8 +71,8 @@ fn answer_all<S: Source, K: Sink>(
 fn answer<K: Sink>(shop: &mut Shop, said: Said, sink: &mut K) -> Result<(), ScriptEnd>
     requires made { IsMade said }
     requires opened { opened_by shop.old 1 < 2 ^ 63 }
-    ensures writes { Writes (item_text shop.old said) result (K.written sink.old) (K.written sink.new) (K.write_faults sink.old) (K.write_faults sink.new) }
-    ensures state { OnOk result (shop.new ≡ item_after shop.old said) }
+    ensures writes { Writes (said_text shop.old said) result (K.written sink.old) (K.written sink.new) (K.write_faults sink.old) (K.write_faults sink.new) }
+    ensures state { OnOk result (shop.new ≡ said_after shop.old said) }
     ensures opened { OnOk result (opened_by shop.new 1 ≤ opened_by shop.old 1 + 1) }
     ensures counted { K.write_faults sink.old ≤ K.write_faults sink.new }
     ensures aside { K.write_aside sink.new ≡ K.write_aside sink.old }

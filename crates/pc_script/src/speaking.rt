@@ -1,23 +1,21 @@
 //! What a line says to a shop, and what it is answered.
 
-ghost use Rattle.std.specs.Prelude.{◌≡◌, ◌<◌, ◌≤◌, ◌+◌, ◌^◌, ◌++◌, ◌∷◌, [], length, false, IfOk, IfSome, OnOk, MatchOption};
+ghost use Rattle.std.specs.Prelude.{◌≡◌, ◌<◌, ◌≤◌, ◌+◌, ◌^◌, ◌++◌, length, false, IfOk, IfSome, OnOk};
+ghost use Rattle.pc_calls.specs.Heads.{reply};
 ghost use Rattle.pc_calls.specs.LineWords.{end_of, word_of, words_from};
+ghost use Rattle.pc_calls.specs.ReplyText.{reply_text};
 ghost use Rattle.pc_calls.specs.State.{opened_by};
-ghost use Rattle.pc_script.specs.Heard.{caller_of, heard, heard_call, heard_command, is_later};
-ghost use Rattle.pc_calls.specs.CommandLine.{line_call};
-ghost use Rattle.pc_conn.specs.Answers.{bad_text, fault_text, not_built_text};
-ghost use Rattle.pc_script.specs.declared.item.Said.TheVariants.{Asks};
+ghost use Rattle.pc_calls.specs.Step.{after};
+ghost use Rattle.pc_conn.specs.Items.{heard as heard_words};
+ghost use Rattle.pc_script.specs.Heard.{bad_at, caller_of, heard, heard_command, is_later, of_caller};
 ghost use Rattle.pc_script.specs.Made.{IsMade, IsMadeBy, IsMadeCall, is_later_first};
-ghost use Rattle.pc_script.specs.Script.{caller_line, item_after, item_text};
+ghost use Rattle.pc_script.specs.Script.{caller_line, entered, said_after, said_text};
 
-use crate::item::{Announced, Heard, Said};
+use crate::item::{Heard, Said};
 use crate::shop::Shop;
 use pc_base::{Line, NoMemory, Text};
-use pc_calls::{Call, Command, LineCall, PlacedWord, first_word, read_call, unsigned, write_reply};
-use pc_conn::{push_bad, push_fault, push_not_built};
-use pc_text::Kind;
-use std::alloc::Global;
-
+use pc_calls::{Call, Command, PlacedWord, first_word, unsigned, write_reply};
+use pc_conn::{Item, hear, push_bad, push_fault, push_not_built};
 /// Whether a command is one that a script doesn't know yet.
 fn is_later(command: Option<Command>) -> bool
     ensures { result ≡ is_later command }
@@ -49,35 +47,30 @@ fn heard_command(caller: u64, line: &Line, from: u64) -> Heard
     ensures made { IsMadeBy result }
 {
     match first_word(line.as_slice(), from) {
-        Some(word) if is_later(Command::read(word.bytes)) => Heard::Item(Said::Bad {
-            caller,
-            column: word.wrong().column,
-        }),
-        _ => heard_call(caller, line, from),
+        Some(word) if is_later(Command::read(word.bytes)) => bad_at(caller, word.wrong().column),
+        _ => heard_known(caller, line, from),
     }
 }
 
 /// What the words after CALLER say, of which the first is none of a later command.
 #[tactic(auto, using(crate::proofs::MadeCalls::made_by))]
-fn heard_call(caller: u64, line: &Line, from: u64) -> Heard
+fn heard_known(caller: u64, line: &Line, from: u64) -> Heard
     requires caller { caller ≡ 1 }
     requires known { is_later_first (words_from line.now from) ≡ false }
-    ensures heard { result ≡ heard_call caller (length line.now) (line_call line.now from) }
+    ensures heard { result ≡ of_caller caller (heard_words line.now from) }
     ensures made { IsMadeBy result }
 {
-    match read_call(line, from) {
-        Ok(LineCall::Whole(call)) => Heard::Item(Said::Asks { caller, call }),
-        Ok(LineCall::PublishHead { base, lines }) => Heard::Publish(Announced {
-            caller,
-            base,
-            lines,
-            end_column: line.as_slice().len() as u64 + 1,
-        }),
-        Err(wrong) => Heard::Item(Said::Bad {
-            caller,
-            column: wrong.column,
-        }),
-    }
+    Heard::of(caller, hear(line, from))
+}
+
+/// A line whose first wrong word begins at a column.
+fn bad_at(caller: u64, column: u64) -> Heard
+    ensures { result ≡ bad_at caller column }
+{
+    Heard::Said(Said {
+        caller,
+        item: Item::Bad { column },
+    })
 }
 
 /// The line before an answer.
@@ -97,17 +90,11 @@ impl Shop {
         ensures made { IsMadeBy result }
     {
         let Some(word) = first_word(line.as_slice(), 0) else {
-            return Heard::Item(Said::Bad {
-                caller: 0,
-                column: line.as_slice().len() as u64 + 1,
-            });
+            return bad_at(0, line.as_slice().len() as u64 + 1);
         };
         match self.caller_of(word.bytes) {
             Some(caller) => heard_command(caller, line, end_of(&word)),
-            None => Heard::Item(Said::Bad {
-                caller: 0,
-                column: word.wrong().column,
-            }),
+            None => bad_at(0, word.wrong().column),
         }
     }
 
@@ -127,59 +114,31 @@ impl Shop {
     pub fn answer(&mut self, said: Said) -> Result<Text, NoMemory>
         requires made { IsMade said }
         requires opened { opened_by self.old 1 < 2 ^ 63 }
-        ensures text { IfOk result (λ text. text ≡ item_text self.old said) }
-        ensures state { OnOk result (self.new ≡ item_after self.old said) }
+        ensures text { IfOk result (λ text. text ≡ said_text self.old said) }
+        ensures state { OnOk result (self.new ≡ said_after self.old said) }
         ensures opened { OnOk result (opened_by self.new 1 ≤ opened_by self.old 1 + 1) }
     {
-        match said {
-            Said::Asks { caller, call } => self.answer_call(caller, call),
-            Said::Bad { caller, column } => answer_bad(self.alloc(), caller, column),
-            Said::Fault { caller, line, kind } => answer_fault(self.alloc(), caller, line, kind),
-            Said::NotBuilt { caller, line } => answer_not_built(self.alloc(), caller, line),
+        let mut text = Text::new(self.alloc());
+        push_caller(&mut text, said.caller)?;
+        match said.item {
+            Item::Call(call) => self.push_reply(&mut text, call)?,
+            Item::Bad { column } => push_bad(&mut text, column)?,
+            Item::Fault { line, kind } => push_fault(&mut text, line, kind)?,
+            Item::NotBuilt { line } => push_not_built(&mut text, line)?,
         }
+        Ok(text)
     }
 
-    /// The answer to a call.
-    fn answer_call(&mut self, caller: u64, call: Call) -> Result<Text, NoMemory>
-        requires caller { caller ≡ 1 }
+    /// Puts the reply to a call of the caller at the end of a text.
+    fn push_reply(&mut self, text: &mut Text, call: Call) -> Result<(), NoMemory>
         requires made { IsMadeCall call }
         requires opened { opened_by self.old 1 < 2 ^ 63 }
-        ensures text { IfOk result (λ text. text ≡ item_text self.old (Asks caller call)) }
-        ensures state { OnOk result (self.new ≡ item_after self.old (Asks caller call)) }
+        ensures text { OnOk result (text.new ≡ text.old ++ reply_text (reply 1 call (entered self.old 1))) }
+        ensures state { OnOk result (self.new ≡ after 1 call (entered self.old 1)) }
         ensures opened { OnOk result (opened_by self.new 1 ≤ opened_by self.old 1 + 1) }
     {
         self.enter();
         let reply = self.reply(call)?;
-        let mut text = Text::new(self.alloc());
-        push_caller(&mut text, caller)?;
-        text.extend_from_slice(write_reply(self.alloc(), &reply)?.as_slice())?;
-        Ok(text)
+        text.extend_from_slice(write_reply(self.alloc(), &reply)?.as_slice())
     }
-}
-
-fn answer_bad(alloc: Global, caller: u64, column: u64) -> Result<Text, NoMemory>
-    ensures { IfOk result (λ text. text ≡ caller_line caller ++ bad_text column) }
-{
-    let mut text = Text::new(alloc);
-    push_caller(&mut text, caller)?;
-    push_bad(&mut text, column)?;
-    Ok(text)
-}
-
-fn answer_fault(alloc: Global, caller: u64, line: u64, kind: Kind) -> Result<Text, NoMemory>
-    ensures { IfOk result (λ text. text ≡ caller_line caller ++ fault_text line kind) }
-{
-    let mut text = Text::new(alloc);
-    push_caller(&mut text, caller)?;
-    push_fault(&mut text, line, kind)?;
-    Ok(text)
-}
-
-fn answer_not_built(alloc: Global, caller: u64, line: u64) -> Result<Text, NoMemory>
-    ensures { IfOk result (λ text. text ≡ caller_line caller ++ not_built_text line) }
-{
-    let mut text = Text::new(alloc);
-    push_caller(&mut text, caller)?;
-    push_not_built(&mut text, line)?;
-    Ok(text)
 }
