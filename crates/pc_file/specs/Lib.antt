@@ -9,7 +9,7 @@ pub mod PrintedForm
 pub mod PrintedSize
 pub mod Limits
 pub mod Positions
-pub mod Words
+pub mod WordOrder
 pub mod Products
 pub mod Costs
 pub mod ListingText
