@@ -1,7 +1,7 @@
 //! The commands.
 
 ghost use Rattle.std.specs.Prelude.{◌≡◌};
-ghost use Rattle.pc_file.specs.Spelling.{same_spelling};
+ghost use Rattle.pc_names.specs.Spelling.{same_spelling};
 ghost use Rattle.pc_calls.specs.CommandLine.{command_of};
 
 /// What a line asks for, which its first word tells.

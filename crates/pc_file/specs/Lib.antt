@@ -1,4 +1,3 @@
-pub mod Spelling
 pub mod Catalogue
 pub mod Names
 pub mod Contents

@@ -1,3 +1,4 @@
+pub mod NamesLemmas
 pub mod NumberText
 pub mod Places
 pub mod Spellings

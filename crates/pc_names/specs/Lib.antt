@@ -1,3 +1,4 @@
+pub mod Spelling
 pub mod Name
 pub mod Places
 pub mod Stored

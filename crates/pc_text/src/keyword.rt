@@ -1,7 +1,7 @@
 //! The first words of statements.
 
 ghost use Rattle.std.specs.Prelude.{◌≡◌};
-ghost use Rattle.pc_file.specs.Spelling.{same_spelling};
+ghost use Rattle.pc_names.specs.Spelling.{same_spelling};
 ghost use Rattle.pc_text.specs.Keyword.{keyword_of, follows, expected, named};
 
 use pc_rules::Kind;
