@@ -3,3 +3,4 @@ pub mod NumberText
 pub mod Places
 pub mod Spellings
 pub mod Written
+pub mod SpaceLemmas

@@ -1,3 +1,4 @@
+pub mod Spaces
 pub mod Spelling
 pub mod Name
 pub mod Places
