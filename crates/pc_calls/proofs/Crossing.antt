@@ -5,12 +5,12 @@ use denote.Param.Send.{IsSend, IsSync, sendable, view_send, view_sync, recorded_
 use Rattle.std.proofs.Crossing.{crosses}
 use Rattle.std.proofs.hash.BuildHasherDefault.TheSendSync as build
 use Rattle.std.proofs.hash.FoldHasher.TheSendSync as hasher
-use Rattle.pc_file.below.indexmap.proofs.columns.Columns.TheSendSync as columns
-use Rattle.pc_file.below.indexmap.proofs.index_table.Bucket.TheSendSync as bucket
-use Rattle.pc_file.below.indexmap.proofs.index_table.IndexTable.TheSendSync as index_table
-use Rattle.pc_file.below.indexmap.proofs.index_table.group.Group.TheSendSync as group
-use Rattle.pc_file.below.indexmap.proofs.map.IndexMap.TheSendSync as map
-use Rattle.pc_file.below.indexmap.proofs.set.IndexSet.TheSendSync as set
+use Rattle.pc_names.below.indexmap.proofs.columns.Columns.TheSendSync as columns
+use Rattle.pc_names.below.indexmap.proofs.index_table.Bucket.TheSendSync as bucket
+use Rattle.pc_names.below.indexmap.proofs.index_table.IndexTable.TheSendSync as index_table
+use Rattle.pc_names.below.indexmap.proofs.index_table.group.Group.TheSendSync as group
+use Rattle.pc_names.below.indexmap.proofs.map.IndexMap.TheSendSync as map
+use Rattle.pc_names.below.indexmap.proofs.set.IndexSet.TheSendSync as set
 use Rattle.pc_file.below.sqlite_items.proofs.items.Items.TheSendSync as items
 use Rattle.pc_file.below.sqlite_items.proofs.boxed.Boxed.TheSendSync as boxed
 use Rattle.pc_base.proofs.sequence.Sequence.TheSendSync as sequence

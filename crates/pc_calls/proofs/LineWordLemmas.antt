@@ -1,14 +1,16 @@
 -- Words are cut off a line one after the other.
-use Rattle.std.proofs.Common.{◌≡◌, ℕ, ◌+◌, ◌<◌, ◌≤◌, Bool, true, false, not, List, [], ◌∷◌, length, drop, Option, Some, None, get_or, position, add-zero, min, ◌-◌, take, cond, subst, refl, sym, ap, ◌∙◌, inl, inr, arith, length-drop}
+use Rattle.std.proofs.Common.{◌≡◌, ℕ, ◌+◌, ◌<◌, ◌≤◌, Bool, true, false, not, List, [], ◌∷◌, length, drop, get_or, add-zero, min, ◌-◌, take, subst, refl, sym, ap, ◌∙◌, inl, inr, arith, length-drop}
 use Rattle.std.proofs.Math.Numerals.{one-add}
-use Rattle.std.specs.List.{position_or_len, before_first}
+use Rattle.std.specs.List.{position_or_len}
 use Rattle.std.proofs.Math.Seq.{drop-cons, drop-drop}
 use Rattle.std.proofs.lemmas.Bool.{cases_Bool, ltb-true, ltb-false}
 use Rattle.std.proofs.lemmas.Grind.{common_steps}
 use Rattle.std.proofs.lemmas.List.{drop_all}
 use Rattle.std.proofs.lemmas.List.Sums.{passes_at_first}
 use Rattle.std.specs.Prelude.{nat_lt}
-use Rattle.pc_calls.specs.LineWords.{Word, is_space, goes_on, joined, words_at, words_from}
+use Rattle.pc_names.specs.Spaces.{is_space, goes_on}
+use Rattle.pc_names.proofs.SpaceLemmas.{front, front-space, front-byte}
+use Rattle.pc_calls.specs.LineWords.{Word, joined, words_at, words_from}
 
 words_at-space : (place b : ℕ) (bs : List ℕ) → is_space b ≡ true → words_at place (b ∷ bs) ≡ words_at (place + 1) bs
 unfolding words_at
@@ -26,15 +28,9 @@ pub words_at-nil : (place : ℕ) → words_at place [] ≡ []
 unfolding words_at
 words_at-nil place = refl
 
--- the bytes before the first byte other than a space, and from it on
-abbrev spaces : List ℕ → ℕ
+-- how many spaces stand before the first other byte
+abbrev pub spaces : List ℕ → ℕ
 spaces bytes = position_or_len (λ byte. not (is_space byte)) bytes
-
-abbrev front : List ℕ → List ℕ
-front bytes = before_first is_space bytes
-
-abbrev rest : List ℕ → List ℕ
-rest bytes = drop (length (front bytes)) bytes
 
 spaces-space : (b : ℕ) (bs : List ℕ) → is_space b ≡ true → spaces (b ∷ bs) ≡ 1 + spaces bs
 spaces-space b bs e = rw e refl
@@ -52,12 +48,6 @@ skip place (b ∷ bs) =
           words_at-space place b bs is ∙ skip (place + 1) bs ∙ ap (λ p. words_at p (drop (spaces bs) bs)) further ∙ sym (rw (spaces-space b bs is, one-add) refl)
       | inr is ↦ sym (rw (spaces-byte b bs is, add-zero) refl)
     ]
-
-front-space : (b : ℕ) (bs : List ℕ) → is_space b ≡ true → front (b ∷ bs) ≡ []
-front-space b bs e = rw e refl
-
-front-byte : (b : ℕ) (bs : List ℕ) → is_space b ≡ false → front (b ∷ bs) ≡ b ∷ front bs
-front-byte b bs e = rw (e, one-add) refl
 
 -- what comes of bytes after a first word of these bytes
 abbrev after : ℕ → List ℕ → List ℕ → List Word
@@ -82,41 +72,28 @@ at_byte : (place : ℕ) (bytes : List ℕ) → 0 < length bytes → is_space (ge
 at_byte place [] some is = absurd (omega arith)
 at_byte place (b ∷ bs) some is = first place b bs is
 
-found : (b : Bool) (n k : ℕ) → cond b (Some n) None ≡ Some k → (b ≡ true) × (n ≡ k)
-found true n k e = (refl, cc)
-found false n k e = absurd cc
-
-missing : (b : Bool) (n : ℕ) → cond b (Some n) None ≡ None → b ≡ false
-missing true n e = absurd cc
-missing false n e = refl
-
 no_space : (b : Bool) → not b ≡ true → b ≡ false
 no_space true e = sym e
 no_space false e = refl
 
-abbrev start_of : List ℕ → Option ℕ
-start_of bytes = position (λ byte. not (is_space byte)) bytes
-
--- where the first byte other than a space is, a word begins
-pub first_word_at : (place k : ℕ) (bytes : List ℕ) → start_of bytes ≡ Some k → (words_at place bytes ≡ after (place + k) (front (drop k bytes)) (drop k bytes)) × (k < length bytes)
-first_word_at place k bytes at =
+-- past the spaces before it, a word begins
+pub first_word_at : (place k : ℕ) (bytes : List ℕ) → k ≡ spaces bytes → k < length bytes → words_at place bytes ≡ after (place + k) (front (drop k bytes)) (drop k bytes)
+first_word_at place k bytes at within =
     let n = spaces bytes in
-    let here = found (nat_lt n (length bytes)) n k at in
-    let below : n < length bytes = ltb-true n (length bytes) here.0 in
+    let below : n < length bytes = omega arith in
     let byte = no_space (is_space (get_or bytes n 0)) (passes_at_first (λ byte. not (is_space byte)) bytes 0 below) in
     let same : get_or (drop n bytes) 0 0 ≡ get_or bytes n 0 = ap (λ l. get_or l 0 0) (drop-cons bytes n 0 below) in
     let some : 0 < length (drop n bytes) = omega (arith, length-drop n bytes) in
     let word = skip place bytes ∙ at_byte (place + n) (drop n bytes) some (ap is_space same ∙ byte) in
-    subst (λ j. (words_at place bytes ≡ after (place + j) (front (drop j bytes)) (drop j bytes)) × (j < length bytes)) here.1 (word, below)
+    subst (λ j. words_at place bytes ≡ after (place + j) (front (drop j bytes)) (drop j bytes)) (sym at) word
 
-pub no_word_at : (place : ℕ) (bytes : List ℕ) → start_of bytes ≡ None → words_at place bytes ≡ []
-no_word_at place bytes none =
+pub no_word_at : (place : ℕ) (bytes : List ℕ) → length bytes ≤ spaces bytes → words_at place bytes ≡ []
+no_word_at place bytes past =
     let n = spaces bytes in
-    let past : length bytes ≤ n = ltb-false n (length bytes) (missing (nat_lt n (length bytes)) n none) in
     skip place bytes ∙ ap (words_at (place + n)) (drop_all n bytes past) ∙ words_at-nil (place + n)
 
 -- the same of the words of a line from a byte on, which may lie past its end
-pub no_word_from : (line : List ℕ) (from start : ℕ) → start ≡ min from (length line) → start_of (drop start line) ≡ None → words_from line from ≡ []
+pub no_word_from : (line : List ℕ) (from start : ℕ) → start ≡ min from (length line) → length (drop start line) ≤ spaces (drop start line) → words_from line from ≡ []
 no_word_from line from start at none =
     elim (cases_Bool (nat_lt (length line) from)) [
       | inl past ↦
@@ -125,17 +102,17 @@ no_word_from line from start at none =
       | inr within ↦
           let inside : from ≤ length line = ltb-false (length line) from within in
           let same : start ≡ from = omega arith in
-          no_word_at from (drop from line) (ap (λ n. start_of (drop n line)) (sym same) ∙ none)
+          no_word_at from (drop from line) (subst (λ n. length (drop n line) ≤ spaces (drop n line)) same none)
     ]
 
-pub first_word_from : (line : List ℕ) (from start k : ℕ) (word : List ℕ) → start ≡ min from (length line) → start_of (drop start line) ≡ Some k → word ≡ front (drop k (drop start line)) →
+pub first_word_from : (line : List ℕ) (from start k : ℕ) (word : List ℕ) → start ≡ min from (length line) → k ≡ spaces (drop start line) → k < length (drop start line) → word ≡ front (drop k (drop start line)) →
     words_from line from ≡ record { place = start + k; bytes = word } ∷ words_from line (start + k + length word)
-first_word_from line from start k word at some is =
-    let here = first_word_at start k (drop start line) some in
-    let same : start ≡ from = omega (arith, here.1, length-drop start line) in
+first_word_from line from start k word at some within is =
+    let here = first_word_at start k (drop start line) some within in
+    let same : start ≡ from = omega (arith, length-drop start line) in
     let further : drop (length word) (drop k (drop start line)) ≡ drop ((start + k) + length word) line =
     ap (drop (length word)) (drop-drop k start line) ∙ drop-drop (length word) (start + k) line in
-    ap (λ n. words_from line n) (sym same) ∙ here.0 ∙ ap (λ w. after (start + k) w (drop k (drop start line))) (sym is)
+    ap (λ n. words_from line n) (sym same) ∙ here ∙ ap (λ w. after (start + k) w (drop k (drop start line))) (sym is)
     ∙ ap (λ rest. record { place = start + k; bytes = word } ∷ words_at ((start + k) + length word) rest) further
 
 -- the slice from a place on is the rest of the list

@@ -1,7 +1,7 @@
 -- The commands, the words that follow each, and the call that they say.
 use Rattle.std.specs.Prelude.{ℕ, ℤ, if◌then◌else◌, List, codes, Option, Some, None, Result, Ok, Err}
 use Rattle.pc_names.specs.Number.{int_of}
-use Rattle.pc_file.specs.Spelling.{same_spelling}
+use Rattle.pc_names.specs.Spelling.{same_spelling}
 use Rattle.pc_calls.specs.declared.bad_column.BadColumn.{BadColumn}
 use Rattle.pc_calls.specs.declared.call.Call.TheVariants as call
 use Rattle.pc_calls.specs.declared.command.Command.{Command}

@@ -1,5 +1,6 @@
 -- The words of a line, each with its place: its maximal runs of bytes other than the space.
-use Rattle.std.specs.Prelude.{ℕ, ◌+◌, ◌==◌, Bool, false, not, if◌then◌else◌, List, [], ◌∷◌, length, drop}
+use Rattle.std.specs.Prelude.{ℕ, ◌+◌, if◌then◌else◌, List, [], ◌∷◌, length, drop}
+use Rattle.pc_names.specs.Spaces.{is_space, goes_on}
 use Rattle.pc_calls.specs.declared.placed_word.PlacedWord.{PlacedWord}
 
 -- a word, and the place of its first byte, counted from 0 in the line
@@ -10,14 +11,6 @@ pub record Word : Type 0 where
 -- a word of a value of the code
 abbrev pub word_of : PlacedWord → Word
 word_of word = record { place = word.place; bytes = word.bytes.now }
-
-abbrev pub is_space : ℕ → Bool
-is_space byte = byte == 32
-
--- a word goes on at the front of these bytes
-abbrev pub goes_on : List ℕ → Bool
-goes_on [] = false
-goes_on (byte ∷ bytes) = not (is_space byte)
 
 -- a byte at a place, and the word at the front, which begins right after it, are one word
 abbrev pub joined : ℕ → ℕ → List Word → List Word

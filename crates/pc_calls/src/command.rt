@@ -1,8 +1,9 @@
 //! The commands.
 
 ghost use Rattle.std.specs.Prelude.{◌≡◌};
-ghost use Rattle.pc_file.specs.Spelling.{same_spelling};
 ghost use Rattle.pc_calls.specs.CommandLine.{command_of};
+
+use pc_names::same_word;
 
 /// What a line asks for, which its first word tells.
 #[derive(Clone, Copy, Debug, PartialEq, Eq)]
@@ -27,38 +28,32 @@ impl Command {
     pub fn read(word: &[u8]) -> Option<Command>
         ensures { result ≡ command_of word.now }
     {
-        if is(word, "open") {
+        if same_word(word, "open") {
             Some(Command::Open)
-        } else if is(word, "show") {
+        } else if same_word(word, "show") {
             Some(Command::Show)
-        } else if is(word, "choose") {
+        } else if same_word(word, "choose") {
             Some(Command::Choose)
-        } else if is(word, "retract") {
+        } else if same_word(word, "retract") {
             Some(Command::Retract)
-        } else if is(word, "bound") {
+        } else if same_word(word, "bound") {
             Some(Command::Bound)
-        } else if is(word, "unbound") {
+        } else if same_word(word, "unbound") {
             Some(Command::Unbound)
-        } else if is(word, "rebase") {
+        } else if same_word(word, "rebase") {
             Some(Command::Rebase)
-        } else if is(word, "close") {
+        } else if same_word(word, "close") {
             Some(Command::Close)
-        } else if is(word, "publish") {
+        } else if same_word(word, "publish") {
             Some(Command::Publish)
-        } else if is(word, "reclaim") {
+        } else if same_word(word, "reclaim") {
             Some(Command::Reclaim)
-        } else if is(word, "versions") {
+        } else if same_word(word, "versions") {
             Some(Command::Versions)
-        } else if is(word, "leave") {
+        } else if same_word(word, "leave") {
             Some(Command::Leave)
         } else {
             None
         }
     }
-}
-
-fn is(word: &[u8], spelling: &str) -> bool
-    ensures { result ≡ same_spelling word.now spelling.now }
-{
-    word == spelling.as_bytes()
 }

@@ -1,10 +1,12 @@
 //! The words of a line.
 
-ghost use Rattle.std.specs.Prelude.{◌≡◌, ◌≤◌, [], ◌∷◌, length, not, position, MatchOption, IfSome};
+ghost use Rattle.std.specs.Prelude.{◌≡◌, ◌≤◌, [], ◌∷◌, length, MatchOption, IfSome};
 ghost use Rattle.std.specs.List.{before_first};
-ghost use Rattle.pc_calls.specs.LineWords.{is_space, word_of, words_from, end_of};
+ghost use Rattle.pc_names.specs.Spaces.{is_space};
+ghost use Rattle.pc_calls.specs.LineWords.{word_of, words_from, end_of};
 
 use crate::placed_word::PlacedWord;
+use pc_names::{space_place, word_place};
 
 /// The first word of a line from a byte on, if it has one; a word that begins before that byte counts from it on.
 pub fn first_word(line: &[u8], from: u64) -> Option<PlacedWord<'_>>
@@ -15,34 +17,19 @@ pub fn first_word(line: &[u8], from: u64) -> Option<PlacedWord<'_>>
 {
     let start = (from as usize).min(line.len());
     let rest = &line[start..];
-    let skipped = word_start(rest)?;
-    let bytes = word_front(&rest[skipped..]);
+    let skipped = word_place(rest);
+    if skipped == rest.len() {
+        return None;
+    }
     Some(PlacedWord {
         place: (start + skipped) as u64,
-        bytes,
+        bytes: word_front(&rest[skipped..]),
     })
-}
-
-/// Where the first byte other than a space is.
-fn word_start(bytes: &[u8]) -> Option<usize>
-    ensures { result ≡ position (λ byte. not (is_space byte)) bytes.now }
-{
-    bytes.iter().position(|byte| *byte != b' ')
 }
 
 /// The bytes before the first space.
 fn word_front(bytes: &[u8]) -> &[u8]
     ensures { result.now ≡ before_first is_space bytes.now }
 {
-    match space_place(bytes) {
-        Some(place) => &bytes[..place],
-        None => bytes,
-    }
-}
-
-/// Where the first space is.
-fn space_place(bytes: &[u8]) -> Option<usize>
-    ensures { result ≡ position is_space bytes.now }
-{
-    bytes.iter().position(|byte| *byte == b' ')
+    &bytes[..space_place(bytes)]
 }

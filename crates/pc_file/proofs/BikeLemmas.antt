@@ -13,7 +13,8 @@ use Rattle.pc_file.specs.Limits.{is_spelled_step, is_rule}
 use Rattle.pc_file.specs.PrintedRule.{Printed, printing_step, printed_rule}
 use Rattle.pc_file.specs.PrintedForm.{header_line, cost_line, variable_lines, line_of, end_line, text_of_lines, printed, printed_lines}
 use Rattle.pc_file.specs.PrintedSize.{is_short_line, IsPrintable}
-use Rattle.pc_file.specs.Products.{all_words, value_counts, obeys, products}
+use Rattle.pc_diagram.specs.Words.{all_words}
+use Rattle.pc_file.specs.Products.{value_counts, obeys, products}
 use Rattle.pc_file.specs.Bike.{bike, bike_printed}
 
 -- any fold of the two rules, layer by layer

@@ -2,7 +2,6 @@ pub mod RuleLemmas
 pub mod NestingLemmas
 pub mod PrintedLemmas
 pub mod LineSizeLemmas
-pub mod NamesLemmas
 pub mod ProductLemmas
 pub mod CostLemmas
 pub mod ZipLemmas

@@ -10,7 +10,7 @@ use Rattle.pc_base.proofs.DistinctLemmas.{both_true_parts}
 use Rattle.pc_file.specs.declared.catalogue.Catalogue.{Catalogue}
 use Rattle.pc_file.specs.declared.variable.Value.{Value}
 use Rattle.pc_file.specs.declared.variable.Variable.{Variable}
-use Rattle.pc_file.specs.Spelling.{same_spelling}
+use Rattle.pc_names.specs.Spelling.{same_spelling}
 use Rattle.pc_file.specs.Limits.{Contents, IsFile, is_sized, value_names}
 use Rattle.pc_file.specs.Catalogue.{Indexes, value_position}
 use Rattle.pc_file.specs.Positions.{value_named}

@@ -3,12 +3,13 @@ use Rattle.std.proofs.Common.{◌≡◌, ℕ, ◌+◌, Bool, true, ◌&&◌, not
 use Rattle.std.specs.List.{list_all, flat_map, range_with_len}
 use Rattle.std.proofs.lemmas.List.{append-nil, map-append, take_at}
 use Rattle.std.proofs.lemmas.List.Elements.{filter-append}
-use Rattle.std.proofs.lemmas.List.FromFn.{map-range_with_len_more}
 use Rattle.std.proofs.lemmas.Grind.{flat_map-append}
 use Rattle.pc_base.proofs.DistinctLemmas.{both_true_parts}
+use Rattle.pc_diagram.specs.Words.{all_words}
+use Rattle.pc_diagram.proofs.WordLemmas.{range_more}
 use Rattle.pc_file.specs.declared.variable.Variable.{Variable}
 use Rattle.pc_file.specs.Limits.{Contents, is_reserved, is_value, is_sized, is_variable}
-use Rattle.pc_file.specs.Products.{all_words, value_counts, obeys, products, products_after}
+use Rattle.pc_file.specs.Products.{value_counts, obeys, products, products_after}
 
 -- each variable of a file has 1 to 64 values
 pub sized : (costs : ℕ) (variables : List Variable) → list_all (is_variable costs) variables ≡ true → list_all is_sized variables ≡ true
@@ -29,14 +30,6 @@ map_again word value [] = refl
 map_again word value (rest ∷ rests) =
     ap (λ w. w ∷ map (λ rest. word ++ rest) (map (λ rest. value ∷ rest) rests)) (sym (append_assoc word (value ∷ []) rest))
     ∙ ap (λ ws. ((word ++ value ∷ []) ++ rest) ∷ ws) (map_again word value rests)
-
-map_same : (xs : List ℕ) → map (λ x. x) xs ≡ xs
-map_same [] = refl
-map_same (x ∷ xs) = ap (λ ys. x ∷ ys) (map_same xs)
-
-pub range_more : (n : ℕ) → range_with_len 0 (n + 1) ≡ range_with_len 0 n ++ n ∷ []
-range_more n =
-    sym (map_same (range_with_len 0 (n + 1))) ∙ map-range_with_len_more (λ x. x) 0 n n (omega arith) ∙ ap (λ xs. xs ++ n ∷ []) (map_same (range_with_len 0 n))
 
 -- the products that begin with the word and one of the first values, and those with the next value
 pub one_more : (p : List ℕ → Bool) (word : List ℕ) (value : ℕ) (rests : List (List ℕ)) →

@@ -1,99 +1,29 @@
--- The list of all words, and those of them that pass a test.
-use Rattle.std.proofs.Common.{◌≡◌, ◌≢◌, ℕ, zero, suc, ◌+◌, ◌<◌, nat_lt, nat_eq, Bool, true, false, ◌&&◌, ◌||◌, List, [], ◌∷◌, ◌++◌, map, filter, refl, sym, ap, ◌∙◌, subst, arith, Contains, true≢false, add-one, get_or}
-use Rattle.std.specs.List.{list_any, flat_map, range_with_len, AllByRecursion, AllPairs}
-use Rattle.std.specs.Cmp.Lexicographic.{pointwise}
+-- The list of the words that pass a test: which they are, and their order.
+use Rattle.std.proofs.Common.{◌≡◌, ◌≢◌, ℕ, zero, suc, ◌+◌, ◌<◌, nat_lt, nat_eq, Bool, true, false, ◌&&◌, ◌||◌, List, [], ◌∷◌, ◌++◌, map, filter, refl, sym, ap, ◌∙◌, arith, Contains, true≢false, get_or}
+use Rattle.std.specs.List.{flat_map, range_with_len, AllByRecursion, AllPairs}
 use Rattle.std.proofs.lemmas.Cmp.{nat_list_eq_equiv}
 use Rattle.std.proofs.lemmas.Bool.Decides.{nat_tests}
-use Rattle.std.proofs.lemmas.List.{append-nil}
 use Rattle.std.proofs.lemmas.List.Elements.{All-from_recursion}
-use Rattle.std.proofs.lemmas.List.Folds.{list_any-append}
 use Rattle.std.proofs.lemmas.List.Kept.{AllPairs-cons, AllPairs-filter}
-use Rattle.std.proofs.lemmas.Map.Views.{any-filter_same, list_any-from_Contains, Contains-from_any}
-use Rattle.std.proofs.lemmas.Grind.{flat_map-append}
+use Rattle.std.proofs.lemmas.Map.Views.{list_any-from_Contains, Contains-from_any}
 use Rattle.pc_base.proofs.DistinctLemmas.{both_true_parts}
 use Rattle.pc_names.proofs.Places.{name_eq-Decides}
-use Rattle.pc_file.specs.Products.{all_words}
-use Rattle.pc_file.specs.Words.{is_word, is_before}
-use Rattle.pc_file.proofs.ProductLemmas.{range_more}
-
--- the words that begin with one value
-abbrev begin : List (List ℕ) → ℕ → List (List ℕ)
-begin rests value = map (λ rest. value ∷ rest) rests
-
-none_empty : (rests : List (List ℕ)) (value : ℕ) → list_any (pointwise nat_eq []) (begin rests value) ≡ false
-none_empty [] value = refl
-none_empty (rest ∷ rests) value = none_empty rests value
-
-none_empty_all : (rests : List (List ℕ)) (values : List ℕ) → list_any (pointwise nat_eq []) (flat_map (begin rests) values) ≡ false
-none_empty_all rests [] = refl
-none_empty_all rests (value ∷ values) =
-    list_any-append (pointwise nat_eq []) (begin rests value) (flat_map (begin rests) values)
-    ∙ ap (λ b. b || list_any (pointwise nat_eq []) (flat_map (begin rests) values)) (none_empty rests value) ∙ none_empty_all rests values
-
--- one of those that begin with a value
-one_begins : (rests : List (List ℕ)) (value v : ℕ) (word : List ℕ) → list_any (pointwise nat_eq (v ∷ word)) (begin rests value) ≡ (nat_eq v value && list_any (pointwise nat_eq word) rests)
-one_begins [] value v word = by (nat_eq v value)
-  where
-    by : (b : Bool) → false ≡ (b && false)
-    by true = refl
-    by false = refl
-one_begins (rest ∷ rests) value v word =
-    ap (λ more. (nat_eq v value && pointwise nat_eq word rest) || more) (one_begins rests value v word) ∙ by (nat_eq v value) (pointwise nat_eq word rest) (list_any (pointwise nat_eq word) rests)
-  where
-    by : (a b c : Bool) → ((a && b) || (a && c)) ≡ (a && (b || c))
-    by true b c = refl
-    by false b c = refl
-
-below_more : (v n : ℕ) → (nat_lt v n || nat_eq v n) ≡ nat_lt v (n + 1)
-below_more v n = grind (arith, nat_tests)
-
-not_below : (v : ℕ) → nat_lt v 0 ≡ false
-not_below v = grind (arith, nat_tests)
-
--- one of those that begin with one of the first values
-one_of_first : (rests : List (List ℕ)) (n v : ℕ) (word : List ℕ) →
-    list_any (pointwise nat_eq (v ∷ word)) (flat_map (begin rests) (range_with_len 0 n)) ≡ (nat_lt v n && list_any (pointwise nat_eq word) rests)
-one_of_first rests zero v word = ap (λ b. b && list_any (pointwise nat_eq word) rests) (sym (not_below v))
-one_of_first rests (suc n) v word = subst (λ k. list_any (pointwise nat_eq (v ∷ word)) (flat_map (begin rests) (range_with_len 0 k)) ≡ (nat_lt v k && list_any (pointwise nat_eq word) rests)) (add-one n) (more (one_of_first rests n v word))
-  where
-    spread : (a b c : Bool) → ((a && c) || (b && c)) ≡ ((a || b) && c)
-    spread true true true = refl
-    spread true true false = refl
-    spread true false true = refl
-    spread true false false = refl
-    spread false b c = refl
-
-    more : list_any (pointwise nat_eq (v ∷ word)) (flat_map (begin rests) (range_with_len 0 n)) ≡ (nat_lt v n && list_any (pointwise nat_eq word) rests) →
-        list_any (pointwise nat_eq (v ∷ word)) (flat_map (begin rests) (range_with_len 0 (n + 1))) ≡ (nat_lt v (n + 1) && list_any (pointwise nat_eq word) rests)
-    more before =
-        let test = pointwise nat_eq (v ∷ word) in
-        let there = list_any (pointwise nat_eq word) rests in
-        ap (λ values. list_any test (flat_map (begin rests) values)) (range_more n)
-        ∙ ap (list_any test) (flat_map-append (begin rests) (range_with_len 0 n) (n ∷ []) ∙ ap (λ ws. flat_map (begin rests) (range_with_len 0 n) ++ ws) (append-nil (begin rests n)))
-        ∙ list_any-append test (flat_map (begin rests) (range_with_len 0 n)) (begin rests n)
-        ∙ ap (λ b. b || list_any test (begin rests n)) before ∙ ap (λ b. (nat_lt v n && there) || b) (one_begins rests n v word)
-        ∙ spread (nat_lt v n) (nat_eq v n) there ∙ ap (λ b. b && there) (below_more v n)
-
-pub all_words-is : (counts word : List ℕ) → list_any (pointwise nat_eq word) (all_words counts) ≡ is_word counts word
-all_words-is [] [] = refl
-all_words-is [] (v ∷ word) = refl
-all_words-is (n ∷ counts) [] = none_empty_all (all_words counts) (range_with_len 0 n)
-all_words-is (n ∷ counts) (v ∷ word) = one_of_first (all_words counts) n v word ∙ ap (λ b. nat_lt v n && b) (all_words-is counts word)
-
--- a word is one of those that pass a test exactly where it is one of the words and passes
-kept-is : (p : List ℕ → Bool) (counts word : List ℕ) → list_any (pointwise nat_eq word) (filter p (all_words counts)) ≡ (p word && is_word counts word)
-kept-is p counts word =
-    any-filter_same (pointwise nat_eq word) p (p word) (λ k same. ap p (sym ((name_eq-Decides word k).0 same))) (all_words counts)
-    ∙ ap (λ b. p word && b) (all_words-is counts word)
+use Rattle.pc_diagram.specs.Words.{is_word, all_words}
+use Rattle.pc_diagram.proofs.WordLemmas.{kept_words-is}
+use Rattle.pc_file.specs.WordOrder.{is_before}
 
 pub kept_only : (p : List ℕ → Bool) (counts word : List ℕ) → Contains (filter p (all_words counts)) word → (is_word counts word ≡ true) × (p word ≡ true)
 kept_only p counts word there =
-    let parts = both_true_parts (p word) (is_word counts word) (sym (kept-is p counts word) ∙ list_any-from_Contains nat_list_eq_equiv word (filter p (all_words counts)) there) in
+    let parts = both_true_parts (p word) (is_word counts word) (sym (kept_words-is p counts word) ∙ list_any-from_Contains nat_list_eq_equiv word (filter p (all_words counts)) there) in
     (parts.1, parts.0)
 
 pub kept_each : (p : List ℕ → Bool) (counts word : List ℕ) → is_word counts word ≡ true → p word ≡ true → Contains (filter p (all_words counts)) word
 kept_each p counts word shaped passes =
-    Contains-from_any (λ x y same. (name_eq-Decides x y).0 same) word (filter p (all_words counts)) (kept-is p counts word ∙ ap (λ b. b && is_word counts word) passes ∙ shaped)
+    Contains-from_any (λ x y same. (name_eq-Decides x y).0 same) word (filter p (all_words counts)) (kept_words-is p counts word ∙ ap (λ b. b && is_word counts word) passes ∙ shaped)
+
+-- the words that begin with one value
+abbrev begin : List (List ℕ) → ℕ → List (List ℕ)
+begin rests value = map (λ rest. value ∷ rest) rests
 
 -- a word before another, as a fact
 abbrev pub Before : List ℕ → List ℕ → Type 0

@@ -3,7 +3,7 @@ use Rattle.std.specs.Prelude.{◌≡◌, ℕ, map, List, Option, option_and_then
 use Rattle.pc_file.specs.declared.catalogue.Catalogue.{Catalogue}
 use Rattle.pc_file.specs.declared.variable.Variable.{Variable}
 use Rattle.pc_file.specs.Limits.{variable_names, value_names}
-use Rattle.pc_file.specs.Spelling.{same_spelling}
+use Rattle.pc_names.specs.Spelling.{same_spelling}
 
 -- where a variable of this name stands
 abbrev pub variable_position : Catalogue → List ℕ → Option ℕ

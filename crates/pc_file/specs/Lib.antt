@@ -1,4 +1,3 @@
-pub mod Spelling
 pub mod Catalogue
 pub mod Names
 pub mod Contents
@@ -9,7 +8,7 @@ pub mod PrintedForm
 pub mod PrintedSize
 pub mod Limits
 pub mod Positions
-pub mod Words
+pub mod WordOrder
 pub mod Products
 pub mod Costs
 pub mod ListingText

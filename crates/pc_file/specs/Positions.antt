@@ -2,7 +2,7 @@
 use Rattle.std.specs.Prelude.{ℕ, zero, suc, List, Option, option_map, option_and_then, slice_get, position}
 use Rattle.pc_diagram.specs.declared.which.Which.{Which}
 use Rattle.pc_diagram.specs.declared.which.Which.TheVariants.{First, Second}
-use Rattle.pc_file.specs.Spelling.{same_spelling}
+use Rattle.pc_names.specs.Spelling.{same_spelling}
 use Rattle.pc_file.specs.Limits.{Contents, variable_names, value_names}
 
 -- the position of the first variable of this name

@@ -1,6 +1,7 @@
 -- The products of a file.
 use Rattle.std.specs.Prelude.{ℕ, ◌*◌, List, [], ◌∷◌, ◌++◌, Bool, map, filter, length}
-use Rattle.std.specs.List.{list_all, flat_map, range_with_len}
+use Rattle.std.specs.List.{list_all}
+use Rattle.pc_diagram.specs.Words.{all_words}
 use Rattle.pc_file.specs.declared.variable.Variable.{Variable}
 use Rattle.pc_file.specs.Limits.{Contents}
 use Rattle.pc_file.specs.Rule.{holds}
@@ -13,11 +14,6 @@ value_counts variables = map (λ variable. length variable.values) variables
 abbrev pub word_count : List ℕ → ℕ
 word_count [] = 1
 word_count (count ∷ counts) = count * word_count counts
-
--- all words over so many values, in lexicographic order
-abbrev pub all_words : List ℕ → List (List ℕ)
-all_words [] = [] ∷ []
-all_words (count ∷ counts) = flat_map (λ value. map (λ word. value ∷ word) (all_words counts)) (range_with_len 0 count)
 
 -- every rule holds for the word
 abbrev pub obeys : Contents → List ℕ → Bool

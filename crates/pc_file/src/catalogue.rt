@@ -3,14 +3,13 @@
 ghost use Rattle.std.specs.Prelude.{◌≡◌, [], true, false, map, IfOk, MatchOption};
 ghost use Rattle.std.specs.List.{list_all};
 ghost use Rattle.pc_base.specs.Distinct.{all_differ};
-ghost use Rattle.pc_file.specs.Spelling.{same_spelling};
+ghost use Rattle.pc_names.specs.Spelling.{same_spelling};
 ghost use Rattle.pc_file.specs.Limits.{names_differ, values_differ, value_names, variable_names};
 ghost use Rattle.pc_file.specs.Catalogue.{Indexes, variable_position, value_position};
 
-use crate::names::Names;
 use crate::variable::{Value, Variable};
 use pc_base::{NoMemory, Sequence};
-use pc_names::Name;
+use pc_names::{Name, Names};
 use std::alloc::{AllocError, Global};
 
 /// The names of the variables, in order, and for each the names of its values, in order. No variable's name
@@ -73,20 +72,13 @@ fn names_of_all(alloc: Global, variables: &[Variable]) -> Result<Option<Sequence
 {
     let mut all = Sequence::new(alloc);
     for variable in variables {
-        let Some(names) = names_of(alloc, variable)? else {
+        let names = value_names(alloc, variable.values.as_slice())?;
+        let Some(names) = Names::of(alloc, &names)? else {
             return Ok(None);
         };
         all.push(names)?;
     }
     Ok(Some(all))
-}
-
-/// The names of a variable's values, or `None` where one stands twice.
-fn names_of(alloc: Global, variable: &Variable) -> Result<Option<Names>, NoMemory>
-    ensures { IfOk result (λ found. MatchOption found (values_differ variable.now ≡ false)
-        (λ names. (names ≡ value_names variable.now) × (values_differ variable.now ≡ true))) }
-{
-    Names::of(alloc, &value_names(alloc, variable.values.as_slice())?)
 }
 
 fn variable_names(alloc: Global, variables: &[Variable]) -> Result<Vec<Name>, AllocError>

@@ -1,20 +1,17 @@
 //! A product file.
 
-ghost use Rattle.std.specs.Prelude.{◌≡◌, ◌≤◌, ◌↔◌, length, position, IsTrue, IfOk, IsErrOf};
-ghost use Rattle.pc_base.specs.Distinct.{all_differ};
-ghost use Rattle.pc_file.specs.Spelling.{same_spelling};
+ghost use Rattle.std.specs.Prelude.{◌≡◌, ◌≤◌, ◌↔◌, length, IsTrue, IfOk, IsErrOf};
 ghost use Rattle.pc_file.specs.Limits.{IsFile};
 ghost use Rattle.pc_file.specs.Positions.{variable_named, value_named, cost_at, cost_named};
 
 use crate::catalogue::Catalogue;
 use crate::limits::{are_rules, are_variables};
-use crate::names::Names;
 use crate::printed_lines::is_printable;
 use crate::rule::Rule;
 use crate::variable::Variable;
 use pc_base::{NoMemory, Sequence};
 use pc_diagram::Which;
-use pc_names::Name;
+use pc_names::{Name, Names, position};
 use std::alloc::Global;
 use std::marker::Model;
 use thiserror::Error;
@@ -80,7 +77,7 @@ impl File {
             || !are_variables(costs.len(), variables.as_slice())
             || !are_rules(variables.as_slice(), rules.as_slice())
             || !is_printable(costs.as_slice(), variables.as_slice(), rules.as_slice())
-            || !names_differ(alloc, costs.as_slice())?
+            || Names::of(alloc, costs.as_slice())?.is_none()
         {
             return Err(FileFault::Limit);
         }
@@ -153,23 +150,9 @@ fn cost_at(position: usize) -> Which
     }
 }
 
-/// The first position of a name.
-fn position(names: &[Name], name: &Name) -> Option<usize>
-    ensures { result ≡ position (same_spelling name.now) names.now }
-{
-    names.iter().position(|other| name == other)
-}
-
 /// Whether so many costs, variables and rules keep the limits.
 fn has_right_counts(costs: usize, variables: usize, rules: usize) -> bool
     ensures { IsTrue result ↔ ((1 ≤ costs) × (costs ≤ 2) × (1 ≤ variables) × (variables ≤ 64) × (rules ≤ 1024)) }
 {
     1 <= costs && costs <= 2 && 1 <= variables && variables <= 64 && rules <= 1024
-}
-
-/// Whether no name stands twice.
-fn names_differ(alloc: Global, names: &[Name]) -> Result<bool, NoMemory>
-    ensures { IfOk result (λ differ. differ ≡ all_differ same_spelling names.now) }
-{
-    Ok(Names::of(alloc, names)?.is_some())
 }

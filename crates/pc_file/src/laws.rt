@@ -4,6 +4,7 @@ ghost use Rattle.std.specs.Prelude.{◌≡◌, ◌≢◌, ◌↔◌, ℕ, List, 
 ghost use Rattle.std.specs.List.{AllPairs};
 ghost use Rattle.pc_diagram.specs.Bike.{bike_costs, bikes, open_listing};
 ghost use Rattle.pc_diagram.specs.Bounds.{no_bounds};
+ghost use Rattle.pc_diagram.specs.Words.{is_word};
 ghost use Rattle.pc_names.specs.Places.{IsFirstPlace};
 ghost use Rattle.pc_file.specs.declared.variable.Variable.{Variable};
 ghost use Rattle.pc_file.specs.Limits.{Contents, IsFile, variable_names, value_names};
@@ -12,7 +13,7 @@ ghost use Rattle.pc_file.specs.Costs.{costs_of, file_listing};
 ghost use Rattle.pc_file.specs.ListingText.{listing_text};
 ghost use Rattle.pc_file.specs.PrintedForm.{printed};
 ghost use Rattle.pc_file.specs.Positions.{variable_named, value_named};
-ghost use Rattle.pc_file.specs.Words.{is_word, is_before};
+ghost use Rattle.pc_file.specs.WordOrder.{is_before};
 ghost use Rattle.pc_file.specs.Bike.{bike, bike_text, bike_printed};
 
 /// The worked example, by evaluation: it keeps all limits, these are its products, this is the text of what is

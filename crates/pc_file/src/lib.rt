@@ -10,7 +10,6 @@ mod laws;
 mod limits;
 mod listing;
 mod listing_text;
-mod names;
 mod nesting;
 mod printed_lines;
 mod printed_size;
@@ -27,7 +26,6 @@ pub use laws::{
 pub use limits::is_reserved;
 pub use listing::{costs_of, listing_over, plain_listing};
 pub use listing_text::push_listing;
-pub use names::Names;
 pub use nesting::strength;
 pub use printed_lines::{
     cost_line_size, end_line_size, header_line_size, rule_line_size, value_line_size,

@@ -4,7 +4,6 @@ ghost use Rattle.std.specs.Prelude.{◌≡◌, nat_le, ◌==◌, ◌&&◌, lengt
 ghost use Rattle.std.specs.List.{list_all, list_any, zip};
 ghost use Rattle.pc_base.specs.Distinct.{all_differ};
 ghost use Rattle.pc_file.specs.Limits.{is_reserved, is_cost, is_value, is_sized, is_variable, has_variable, has_value, is_row, is_spelled, is_shallow, is_rule};
-ghost use Rattle.pc_file.specs.Spelling.{same_spelling};
 ghost use Rattle.pc_file.specs.Limits.{is_spelled_step};
 ghost use Rattle.pc_file.specs.declared.rule.Rule.TheOpen.{OneOf, Table};
 ghost use Rattle.pc_file.specs.Nesting.{nesting, open_in_place, open_in_places};
@@ -14,7 +13,7 @@ use crate::nesting::opens_at_most;
 use crate::rule::Rule;
 use crate::variable::{Value, Variable};
 use pc_base::{Sequence, all_differ};
-use pc_names::Name;
+use pc_names::{Name, same_word};
 
 const COST_LIMIT: i64 = 1_000_000_000;
 
@@ -35,19 +34,13 @@ pub fn is_reserved(name: &Name) -> bool
     ensures { result ≡ is_reserved name.now }
 {
     let name = name.as_bytes();
-    is_word(name, "and")
-        || is_word(name, "or")
-        || is_word(name, "not")
-        || is_word(name, "in")
-        || is_word(name, "same")
-        || is_word(name, "atmost")
-        || is_word(name, "table")
-}
-
-fn is_word(name: &[u8], word: &str) -> bool
-    ensures { result ≡ same_spelling name.now word.now }
-{
-    name == word.as_bytes()
+    same_word(name, "and")
+        || same_word(name, "or")
+        || same_word(name, "not")
+        || same_word(name, "in")
+        || same_word(name, "same")
+        || same_word(name, "atmost")
+        || same_word(name, "table")
 }
 
 /// Whether the name and the values of a variable keep their limits in a file of so many costs.
@@ -79,17 +72,11 @@ pub fn are_variables(costs: usize, variables: &[Variable]) -> bool
         .all(|variable| is_variable(costs, variable))
 }
 
-/// Whether a rule can be spelled, names only what is there and opens at most 64 parentheses at once.
-fn is_rule(variables: &[Variable], rule: &Rule) -> bool
-    ensures { result ≡ is_rule variables.now rule.now }
-{
-    is_spelled(variables, rule) && opens_at_most(rule, 64)
-}
-
+/// Whether each rule can be spelled, names only what is there and opens at most 64 parentheses at once.
 pub fn are_rules(variables: &[Variable], rules: &[Rule]) -> bool
     ensures { result ≡ list_all (is_rule variables.now) rules.now }
 {
-    rules.iter().all(|rule| is_rule(variables, rule))
+    rules.iter().all(|rule| is_spelled(variables, rule) && opens_at_most(rule, 64))
 }
 
 fn has_variable(variables: &[Variable], variable: u32) -> bool

@@ -1,7 +1,6 @@
 //! The text of a listing.
 
 ghost use Rattle.std.specs.Prelude.{◌≡◌, ◌++◌, [], ◌∷◌, OnOk};
-ghost use Rattle.std.specs.List.{flat_map};
 ghost use Rattle.pc_file.specs.ListingText.{name_text, word_text, item_text, variable_text, listing_text};
 
 use crate::variable::Variable;
@@ -35,17 +34,6 @@ fn push_variable(
     text.extend_from_slice(b"var ")?;
     text.extend_from_slice(variable.name.as_bytes())?;
     text.push(b'\n')?;
-    push_items(text, variables, variable, items)
-}
-
-fn push_items(
-    text: &mut Text,
-    variables: &[Variable],
-    variable: &Variable,
-    items: &[Listed],
-) -> Result<(), NoMemory>
-    ensures { OnOk result (text.new ≡ text.old ++ flat_map (item_text variables.now variable.now) items.now) }
-{
     for item in items {
         push_item(text, variables, variable, item)?;
     }

@@ -92,21 +92,14 @@ fn with_costs(bytes: usize, costs: &[Name]) -> Option<usize>
     Some(bytes)
 }
 
-fn with_values(bytes: usize, costs: usize, values: &[Value]) -> Option<usize>
-    ensures { result ≡ with_lines bytes (map (value_line costs) values.now) }
-{
-    let mut bytes = bytes;
-    for value in values {
-        bytes = with_line(bytes, value_line_size(costs, value))?;
-    }
-    Some(bytes)
-}
-
 fn with_variable(bytes: usize, costs: usize, variable: &Variable) -> Option<usize>
     ensures { result ≡ with_lines bytes (variable_lines costs variable.now) }
 {
-    let bytes = with_line(bytes, variable_line_size(&variable.name))?;
-    with_values(bytes, costs, variable.values.as_slice())
+    let mut bytes = with_line(bytes, variable_line_size(&variable.name))?;
+    for value in variable.values.as_slice() {
+        bytes = with_line(bytes, value_line_size(costs, value))?;
+    }
+    Some(bytes)
 }
 
 fn with_variables(bytes: usize, costs: usize, variables: &[Variable]) -> Option<usize>

@@ -2,7 +2,7 @@
 //! greatest number of 64 bits counts as that.
 
 ghost use Rattle.std.specs.Prelude.{◌≡◌, ◌≤◌, ◌+◌, ◌-◌, ◌*◌, length, sum_by};
-ghost use Rattle.std.specs.List.{join_by, zip};
+ghost use Rattle.std.specs.List.{join_by};
 ghost use Rattle.pc_file.specs.declared.rule.Rule.TheOpen.{Is, OneOf, Same, Table};
 ghost use Rattle.pc_file.specs.PrintedRule.{printed_variable, printed_value, printed_row, printed_rule, printed_in_place, text_of};
 ghost use Rattle.pc_file.specs.PrintedSize.{counted};
@@ -64,24 +64,14 @@ fn sum_of_values(variables: &[Variable], variable: u32, values: &[u32]) -> usize
     size
 }
 
-fn sum_of_row(variables: &[Variable], these: &[u32], row: &[u32]) -> usize
-    ensures { result ≡ counted (sum_by (λ p. length (printed_value variables.now p.0 p.1)) (zip these.now row.now)) }
+fn row_size(variables: &[Variable], these: &[u32], row: &[u32]) -> usize
+    ensures { result ≡ counted (length (printed_row variables.now these.now row.now)) }
 {
     let mut size = 0usize;
     for (variable, value) in these.iter().zip(row) {
         size = size.saturating_add(value_size(variables, *variable, *value));
     }
-    size
-}
-
-fn row_size(variables: &[Variable], these: &[u32], row: &[u32]) -> usize
-    ensures { result ≡ counted (length (printed_row variables.now these.now row.now)) }
-{
-    joined_size(
-        sum_of_row(variables, these, row),
-        these.len().min(row.len()),
-        " ",
-    )
+    joined_size(size, these.len().min(row.len()), " ")
 }
 
 fn sum_of_rows(variables: &[Variable], these: &[u32], rows: &[Sequence<u32>]) -> usize
@@ -177,20 +167,9 @@ fn size_in_place(asked: u8, variables: &[Variable], rule: &Rule) -> usize
 fn members_size(asked: u8, variables: &[Variable], rules: &[Rule], separator: &str) -> usize
     ensures { result ≡ counted (length (join_by (printed_in_place asked variables.now) separator.now rules.now)) }
 {
-    joined_size(
-        sum_of_members(asked, variables, rules),
-        rules.len(),
-        separator,
-    )
-}
-
-#[cycle(size)]
-fn sum_of_members(asked: u8, variables: &[Variable], rules: &[Rule]) -> usize
-    ensures { result ≡ counted (sum_by (λ rule. length (printed_in_place asked variables.now rule)) rules.now) }
-{
     let mut size = 0usize;
     for rule in rules {
         size = size.saturating_add(size_in_place(asked, variables, rule));
     }
-    size
+    joined_size(size, rules.len(), separator)
 }

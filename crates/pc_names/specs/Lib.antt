@@ -1,3 +1,5 @@
+pub mod Spaces
+pub mod Spelling
 pub mod Name
 pub mod Places
 pub mod Stored

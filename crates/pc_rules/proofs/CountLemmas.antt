@@ -10,7 +10,7 @@ use lib.Signed.{mag}
 use Rattle.std.proofs.lemmas.Bool.Decides.{nat_tests}
 use Rattle.pc_names.specs.Places.{IsFirstPlace}
 use Rattle.pc_names.proofs.Places.{first_place_of_name}
-use Rattle.pc_file.specs.Spelling.{same_spelling}
+use Rattle.pc_names.specs.Spelling.{same_spelling}
 use Rattle.pc_names.proofs.NumberText.{small}
 use Rattle.pc_rules.specs.Counts.{spellings, count_of, small_number}
 use Rattle.pc_rules.proofs.ListPlaces.{all_at}

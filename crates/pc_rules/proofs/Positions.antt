@@ -10,7 +10,7 @@ use Rattle.pc_names.specs.Name.{is_name}
 use Rattle.pc_names.proofs.Places.{first_place_of_name}
 use Rattle.pc_file.specs.declared.catalogue.Catalogue.{Catalogue}
 use Rattle.pc_file.specs.declared.variable.Variable.{Variable}
-use Rattle.pc_file.specs.Spelling.{same_spelling}
+use Rattle.pc_names.specs.Spelling.{same_spelling}
 use Rattle.pc_file.specs.Catalogue.{variable_position, value_position}
 use Rattle.pc_file.specs.Names.{value_name}
 use Rattle.pc_file.specs.Limits.{has_variable, has_value, is_row}

@@ -12,7 +12,7 @@ use Rattle.pc_names.proofs.Places.{first_place_of_name, name_eq-Decides}
 use Rattle.pc_file.specs.declared.catalogue.Catalogue.{Catalogue}
 use Rattle.pc_file.specs.declared.variable.Value.{Value}
 use Rattle.pc_file.specs.declared.variable.Variable.{Variable}
-use Rattle.pc_file.specs.Spelling.{same_spelling}
+use Rattle.pc_names.specs.Spelling.{same_spelling}
 use Rattle.pc_file.specs.Catalogue.{variable_position, value_position}
 use Rattle.pc_file.specs.Limits.{is_reserved, is_sized, has_variable, has_value, is_row, variable_names, value_names, values_differ}
 use Rattle.pc_file.specs.PrintedRule.{printed_variable, printed_value}

@@ -3,7 +3,7 @@ use Rattle.std.proofs.Common.{◌≡◌, ℕ, zero, suc, ◌≤◌, nat_le, Bool
 use denote.Enum.Bare.{same_true}
 use Rattle.std.proofs.lemmas.Bool.{and_from, not_from_false, le-leb}
 use Rattle.pc_names.proofs.Places.{name_eq-Decides}
-use Rattle.pc_file.specs.Spelling.{same_spelling}
+use Rattle.pc_names.specs.Spelling.{same_spelling}
 use Rattle.pc_file.specs.Limits.{is_reserved}
 use Rattle.pc_rules.specs.contracts.token.Sign.{the_type}
 use Rattle.pc_rules.specs.declared.kind.Kind.{Kind}

@@ -1,6 +1,6 @@
 -- The number of `atmost`.
 use Rattle.std.specs.Prelude.{ℕ, zero, suc, ◌+◌, nat_le, ℤ, pos, negsuc, if◌then◌else◌, List, [], ◌∷◌, Option, Some, None, decimal, position}
-use Rattle.pc_file.specs.Spelling.{same_spelling}
+use Rattle.pc_names.specs.Spelling.{same_spelling}
 
 -- the spellings of so many numbers, from the second number on
 abbrev pub spellings : ℕ → ℕ → List (List ℕ)

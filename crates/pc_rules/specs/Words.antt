@@ -1,7 +1,7 @@
 -- What is read at the front of the tokens that are left: words, signs and lists of such.
 use Rattle.std.specs.Prelude.{ℕ, zero, suc, Bool, false, if◌then◌else◌, List, [], ◌∷◌, ◌++◌, length, drop, Ok, Err}
 use denote.Enum.Bare.{sameb}
-use Rattle.pc_file.specs.Spelling.{same_spelling}
+use Rattle.pc_names.specs.Spelling.{same_spelling}
 use Rattle.pc_file.specs.Limits.{is_reserved}
 use Rattle.pc_rules.specs.contracts.token.Sign.{the_type}
 use Rattle.pc_rules.specs.declared.kind.Kind.TheVariants as kind

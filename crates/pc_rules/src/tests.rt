@@ -2,8 +2,8 @@ use super::*;
 use crate::phrase::Phrase;
 use crate::token::Token;
 use pc_base::{NoMemory, Text, crosses_threads};
-use pc_file::{Catalogue, Names, Rule};
-use pc_names::Name;
+use pc_file::{Catalogue, Rule};
+use pc_names::{Name, Names};
 use std::alloc::Global;
 use std::test::Fail;
 

@@ -2,7 +2,7 @@
 
 ghost use Rattle.std.specs.Prelude.{◌≡◌, Err};
 ghost use Rattle.std.specs.Option.{option_map};
-ghost use Rattle.pc_file.specs.Spelling.{same_spelling};
+ghost use Rattle.pc_names.specs.Spelling.{same_spelling};
 ghost use Rattle.pc_file.specs.Limits.{is_reserved};
 ghost use Rattle.pc_rules.specs.Outcome.{Gives};
 ghost use Rattle.pc_rules.specs.Words as spec;

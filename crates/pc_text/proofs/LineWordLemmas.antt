@@ -1,9 +1,11 @@
 -- Words are cut off a line one after the other.
 use Rattle.std.proofs.Common.{◌≡◌, ℕ, ◌<◌, true, false, not, List, [], ◌∷◌, length, drop, refl, sym, ap, ◌∙◌, inl, inr, arith, length-drop}
 use Rattle.std.proofs.Math.Numerals.{one-add}
-use Rattle.std.specs.List.{onto_first, position_or_len, before_first}
+use Rattle.std.specs.List.{onto_first, position_or_len}
 use Rattle.std.proofs.lemmas.Bool.{cases_Bool}
-use Rattle.pc_text.specs.LineWords.{is_space, goes_on, words, from_word, first_word, after_word}
+use Rattle.pc_names.specs.Spaces.{is_space, goes_on}
+use Rattle.pc_names.proofs.SpaceLemmas.{front, front-space, front-byte}
+use Rattle.pc_text.specs.LineWords.{words, from_word, first_word, after_word}
 
 from_word-space : (b : ℕ) (bs : List ℕ) → is_space b ≡ true → from_word (b ∷ bs) ≡ from_word bs
 unfolding from_word
@@ -33,21 +35,12 @@ pub words-more : (b : ℕ) (bs : List ℕ) → is_space b ≡ false → goes_on 
 unfolding words
 words-more b bs e f = rw (e, f) refl
 
--- the bytes up to the first space, and from it on
-abbrev front : List ℕ → List ℕ
-front bs = before_first is_space bs
-
+-- the bytes from the first space on
 abbrev rest : List ℕ → List ℕ
 rest bs = drop (position_or_len is_space bs) bs
 
-front-space : (b : ℕ) (bs : List ℕ) → is_space b ≡ true → front (b ∷ bs) ≡ []
-front-space b bs e = rw e refl
-
 rest-space : (b : ℕ) (bs : List ℕ) → is_space b ≡ true → rest (b ∷ bs) ≡ b ∷ bs
 rest-space b bs e = rw e refl
-
-front-byte : (b : ℕ) (bs : List ℕ) → is_space b ≡ false → front (b ∷ bs) ≡ b ∷ front bs
-front-byte b bs e = rw (e, one-add) refl
 
 rest-byte : (b : ℕ) (bs : List ℕ) → is_space b ≡ false → rest (b ∷ bs) ≡ rest bs
 rest-byte b bs e = rw (e, one-add) refl

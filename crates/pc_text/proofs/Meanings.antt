@@ -4,7 +4,7 @@ use Rattle.std.specs.Prelude.{codes}
 use Rattle.std.proofs.lemmas.Bool.{or_parts, eqb-false}
 use Rattle.pc_names.specs.Name.{is_name}
 use Rattle.pc_names.proofs.Places.{name_eq-Decides}
-use Rattle.pc_file.specs.Spelling.{same_spelling}
+use Rattle.pc_names.specs.Spelling.{same_spelling}
 use Rattle.pc_file.specs.Limits.{Contents}
 use Rattle.pc_file.specs.declared.rule.Rule.{Rule}
 use Rattle.pc_text.specs.declared.keyword.Keyword.{Keyword}

@@ -10,7 +10,7 @@ use Rattle.pc_base.specs.Lines.{lines}
 use Rattle.pc_base.proofs.DistinctLemmas.{both_true_parts}
 use Rattle.pc_names.specs.Name.{is_name}
 use Rattle.pc_names.proofs.Places.{name_eq-Decides}
-use Rattle.pc_file.specs.Spelling.{same_spelling}
+use Rattle.pc_names.specs.Spelling.{same_spelling}
 use Rattle.pc_file.specs.declared.rule.Rule.{Rule}
 use Rattle.pc_file.specs.declared.variable.Value.{Value}
 use Rattle.pc_file.specs.declared.variable.Variable.{Variable}

@@ -14,7 +14,8 @@ use Rattle.pc_names.specs.Name.{is_name_byte, is_name}
 use Rattle.pc_names.proofs.NumberText.{small}
 use Rattle.pc_file.specs.PrintedForm.{line_of}
 use Rattle.pc_rules.proofs.PrintedTokens.{is_word, name-word}
-use Rattle.pc_text.specs.LineWords.{is_space, goes_on, words}
+use Rattle.pc_names.specs.Spaces.{is_space, goes_on}
+use Rattle.pc_text.specs.LineWords.{words}
 use Rattle.pc_text.proofs.LineWordLemmas.{words-nil, words-space, words-last, words-more}
 
 -- a byte of a word of a line

@@ -18,8 +18,8 @@ use Rattle.pc_file.specs.declared.variable.Value.{Value}
 use Rattle.pc_file.specs.declared.variable.Variable.{Variable}
 use Rattle.pc_file.specs.Limits.{IsFile, is_cost, is_reserved, is_value, is_sized, is_variable, value_names, variable_names, values_differ, names_differ, is_rule}
 use Rattle.pc_file.specs.PrintedSize.{IsPrintable}
-use Rattle.pc_file.specs.Spelling.{same_spelling}
-use Rattle.pc_file.proofs.NamesLemmas.{same_spelling-symmetric}
+use Rattle.pc_names.specs.Spelling.{same_spelling}
+use Rattle.pc_names.proofs.NamesLemmas.{same_spelling-symmetric}
 use Rattle.pc_text.specs.declared.keyword.Keyword.{Keyword}
 use Rattle.pc_text.specs.declared.keyword.Keyword.TheVariants as keyword
 use Rattle.pc_rules.specs.declared.kind.Kind.{Kind}

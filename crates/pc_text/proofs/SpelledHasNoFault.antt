@@ -8,8 +8,8 @@ use Rattle.std.proofs.lemmas.List.{append-nil, append_assoc, map-append, length-
 use Rattle.std.proofs.lemmas.List.Folds.{list_all-append}
 use Rattle.pc_base.specs.Distinct.{all_differ}
 use Rattle.pc_base.proofs.DistinctLemmas.{both_true_parts, all_differ-again}
-use Rattle.pc_file.specs.Spelling.{same_spelling}
-use Rattle.pc_file.proofs.NamesLemmas.{same_spelling-symmetric}
+use Rattle.pc_names.specs.Spelling.{same_spelling}
+use Rattle.pc_names.proofs.NamesLemmas.{same_spelling-symmetric}
 use Rattle.pc_file.specs.declared.rule.Rule.{Rule}
 use Rattle.pc_file.specs.declared.variable.Value.{Value}
 use Rattle.pc_file.specs.declared.variable.Variable.{Variable}

@@ -1,6 +1,6 @@
 -- The first words of statements, and which may follow which.
 use Rattle.std.specs.Prelude.{ℕ, Bool, true, false, if◌then◌else◌, List, codes, Option, Some, None}
-use Rattle.pc_file.specs.Spelling.{same_spelling}
+use Rattle.pc_names.specs.Spelling.{same_spelling}
 use Rattle.pc_rules.specs.declared.kind.Kind.{Kind}
 use Rattle.pc_rules.specs.declared.kind.Kind.TheVariants as kind
 use Rattle.pc_text.specs.declared.keyword.Keyword.{Keyword}

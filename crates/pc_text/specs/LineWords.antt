@@ -1,14 +1,7 @@
 -- The words of a line: its maximal runs of bytes other than the space.
-use Rattle.std.specs.Prelude.{ℕ, ◌==◌, Bool, false, not, if◌then◌else◌, List, [], ◌∷◌, drop}
+use Rattle.std.specs.Prelude.{ℕ, not, if◌then◌else◌, List, [], ◌∷◌, drop}
 use Rattle.std.specs.List.{onto_first, position_or_len, before_first}
-
-abbrev pub is_space : ℕ → Bool
-is_space byte = byte == 32
-
--- a word goes on at the front of these bytes
-abbrev pub goes_on : List ℕ → Bool
-goes_on [] = false
-goes_on (byte ∷ bytes) = not (is_space byte)
+use Rattle.pc_names.specs.Spaces.{is_space, goes_on}
 
 -- all words, in order
 unfoldable pub words : List ℕ → List (List ℕ)

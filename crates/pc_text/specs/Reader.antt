@@ -2,7 +2,7 @@
 use Rattle.std.specs.Prelude.{◌≡◌, ℕ, Bool, nat_le, List, [], ◌∷◌, ◌++◌, length, map, Some, option_map}
 use Rattle.std.specs.Option.{option_to_list, IfSome}
 use Rattle.std.specs.List.{list_any}
-use Rattle.pc_file.specs.Spelling.{same_spelling}
+use Rattle.pc_names.specs.Spelling.{same_spelling}
 use Rattle.pc_rules.specs.declared.kind.Kind.{Kind}
 use Rattle.pc_rules.specs.declared.kind.Kind.TheVariants as kind
 use Rattle.pc_file.specs.declared.variable.Variable.{Variable}

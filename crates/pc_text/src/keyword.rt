@@ -1,9 +1,9 @@
 //! The first words of statements.
 
 ghost use Rattle.std.specs.Prelude.{◌≡◌};
-ghost use Rattle.pc_file.specs.Spelling.{same_spelling};
 ghost use Rattle.pc_text.specs.Keyword.{keyword_of, follows, expected, named};
 
+use pc_names::same_word;
 use pc_rules::Kind;
 
 /// What a statement is about, which its first word tells.
@@ -23,17 +23,17 @@ impl Keyword {
     pub fn read(word: &[u8]) -> Option<Keyword>
         ensures { result ≡ keyword_of word.now }
     {
-        if is(word, "product") {
+        if same_word(word, "product") {
             Some(Keyword::Product)
-        } else if is(word, "cost") {
+        } else if same_word(word, "cost") {
             Some(Keyword::Cost)
-        } else if is(word, "variable") {
+        } else if same_word(word, "variable") {
             Some(Keyword::Variable)
-        } else if is(word, "value") {
+        } else if same_word(word, "value") {
             Some(Keyword::Value)
-        } else if is(word, "rule") {
+        } else if same_word(word, "rule") {
             Some(Keyword::Rule)
-        } else if is(word, "end") {
+        } else if same_word(word, "end") {
             Some(Keyword::End)
         } else {
             None
@@ -84,10 +84,4 @@ impl Keyword {
             Keyword::End => Kind::End,
         }
     }
-}
-
-fn is(word: &[u8], spelling: &str) -> bool
-    ensures { result ≡ same_spelling word.now spelling.now }
-{
-    word == spelling.as_bytes()
 }

@@ -1,10 +1,10 @@
 //! The words of a line.
 
-ghost use Rattle.std.specs.Prelude.{◌≡◌, ◌≤◌, not, length, map, IfOk};
-ghost use Rattle.pc_text.specs.LineWords.{is_space, words, from_word, first_word, after_word};
-ghost use Rattle.std.specs.List.{position_or_len};
+ghost use Rattle.std.specs.Prelude.{◌≡◌, map, IfOk};
+ghost use Rattle.pc_text.specs.LineWords.{words, from_word, first_word, after_word};
 
 use pc_base::NoMemory;
+use pc_names::{space_place, word_place};
 use std::alloc::Global;
 
 #[tactic(auto, unfolding(crate::specs::LineWords::first_word, crate::specs::LineWords::after_word))]
@@ -38,32 +38,4 @@ fn from_word(line: &[u8]) -> &[u8]
     ensures { result.now ≡ from_word line.now }
 {
     &line[word_place(line)..]
-}
-
-/// Where the first word begins, or the length where there is none.
-#[tactic(auto, using(std::proofs::lemmas::List::Sums::position_or_len_is))]
-fn word_place(line: &[u8]) -> usize
-    ensures place { result ≡ position_or_len (λ byte. not (is_space byte)) line.now }
-    ensures within { result ≤ length line.now }
-{
-    for (place, byte) in line.iter().enumerate() {
-        if *byte != b' ' {
-            return place;
-        }
-    }
-    line.len()
-}
-
-/// Where the first space is, or the length where there is none.
-#[tactic(auto, using(std::proofs::lemmas::List::Sums::position_or_len_is))]
-fn space_place(bytes: &[u8]) -> usize
-    ensures place { result ≡ position_or_len is_space bytes.now }
-    ensures within { result ≤ length bytes.now }
-{
-    for (place, byte) in bytes.iter().enumerate() {
-        if *byte == b' ' {
-            return place;
-        }
-    }
-    bytes.len()
 }

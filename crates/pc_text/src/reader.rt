@@ -3,7 +3,7 @@
 ghost use Rattle.std.specs.Prelude.{◌≡◌, ◌==◌, ◌&&◌, ◌||◌, not, [], ◌∷◌, ◌<◌, ◌≤◌, codes, map, length, slice_index, Some, None, IfOk, IsErrOf, OnOk, Result};
 ghost use Rattle.pc_file.specs.Limits.{IsFile};
 ghost use Rattle.std.specs.List.{list_all, list_any};
-ghost use Rattle.pc_file.specs.Spelling.{same_spelling};
+ghost use Rattle.pc_names.specs.Spelling.{same_spelling};
 ghost use Rattle.pc_text.specs.Arguments.{bytes, IsOnlyFreeName, IsOnlyName, IsValueOf};
 ghost use Rattle.pc_file.specs.declared.rule.Rule.{Rule};
 ghost use Rattle.pc_file.specs.PrintedSize.{with_line};
@@ -26,10 +26,10 @@ use crate::line_words::{cut_word, words};
 use crate::statement::is_cost_text;
 use pc_base::{NoMemory, Sequence};
 use pc_file::{
-    Catalogue, File, FileFault, Names, Rule, Value, Variable, cost_line_size, end_line_size,
+    Catalogue, File, FileFault, Rule, Value, Variable, cost_line_size, end_line_size,
     header_line_size, is_reserved, rule_line_size, value_line_size, variable_line_size, with_line,
 };
-use pc_names::{Name, read_int};
+use pc_names::{Name, Names, read_int};
 use pc_rules::{Kind, RuleFault, read_rule};
 use std::alloc::Global;
 

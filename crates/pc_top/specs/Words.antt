@@ -1,6 +1,6 @@
 -- The forms of the command line.
 use Rattle.std.specs.Prelude.{ℕ, if◌then◌else◌, List, [], ◌∷◌, codes, Option, Some, None}
-use Rattle.pc_file.specs.Spelling.{same_spelling}
+use Rattle.pc_names.specs.Spelling.{same_spelling}
 use Rattle.pc_top.specs.declared.form.Form.{Form}
 use Rattle.pc_top.specs.declared.form.Form.TheVariants.{List as list, Script}
 

@@ -1,7 +1,7 @@
 use Rattle.std.proofs.Common.{refl, ap}
 use Rattle.std.specs.Prelude.{option_and_then, position}
 use Rattle.pc_names.proofs.Places.{first_place_of_name}
-use Rattle.pc_file.specs.Spelling.{same_spelling}
+use Rattle.pc_names.specs.Spelling.{same_spelling}
 use Rattle.pc_file.specs.Limits.{variable_names, value_names}
 use Rattle.pc_file.specs.Positions.{variable_named, value_named}
 use Rattle.pc_file.proofs.laws.names_have_first_places.Goals as goal

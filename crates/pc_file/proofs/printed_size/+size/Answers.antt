@@ -1,7 +1,8 @@
 use Rattle.std.proofs.Common.{List, ap, sym, ◌∙◌, arith, length}
-use Rattle.std.specs.Prelude.{codes}
+use Rattle.std.specs.Prelude.{codes, sum_by}
 use Rattle.std.specs.Fmt.{decimal}
 use Rattle.std.specs.List.{join_by}
+use Rattle.std.proofs.lemmas.List.{take_all}
 use Rattle.pc_file.specs.declared.rule.Rule.{Rule}
 use Rattle.pc_file.specs.PrintedRule.{printed_variable, printed_in_place, printed_rule}
 use Rattle.pc_file.specs.PrintedSize.{counted}
@@ -49,4 +50,7 @@ rule_size-returns-in-Same t c =
 
 pub members_size-returns : goal.members_size-returns
 members_size-returns t c =
-    omega (arith, length-join_by (printed_in_place c.args.asked c.args.variables.now) c.args.separator.now c.args.rules.now)
+    let rules = c.args.rules.now in
+    let size = λ (rule : Rule). length (printed_in_place c.args.asked c.args.variables.now rule) in
+    let summed = c.loop-rule.invariant ∙ ap (λ rules. counted (sum_by size rules)) (take_all c.loop-rule.rule-index rules c.loop-rule-test.false) in
+    omega (arith, summed, length-join_by (printed_in_place c.args.asked c.args.variables.now) c.args.separator.now rules)

@@ -3,11 +3,11 @@
 ghost use Rattle.std.specs.Prelude.{◌≡◌, [], ◌∷◌, ◌++◌, not, if◌then◌else◌, length, position, true, false, IfOk, OnErr, MatchOption};
 ghost use Rattle.pc_base.specs.Distinct.{all_differ};
 ghost use Rattle.std.specs.List.{list_any};
-ghost use Rattle.pc_file.specs.Spelling.{same_spelling};
+ghost use Rattle.pc_names.specs.Spelling.{same_spelling};
 
+use crate::name::Name;
 use indexmap::IndexSet;
 use pc_base::NoMemory;
-use pc_names::Name;
 use std::alloc::Global;
 use std::marker::Model;
 
@@ -73,4 +73,11 @@ impl Names {
     {
         self.set.len()
     }
+}
+
+/// The first position of a name in a list, counted from 0.
+pub fn position(names: &[Name], name: &Name) -> Option<usize>
+    ensures { result ≡ position (same_spelling name.now) names.now }
+{
+    names.iter().position(|other| name == other)
 }

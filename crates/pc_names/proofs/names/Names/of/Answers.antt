@@ -2,9 +2,9 @@ use Rattle.std.proofs.Common.{◌≡◌, ◌<◌, ◌++◌, ◌∷◌, [], true,
 use Rattle.std.specs.List.{list_any}
 use Rattle.std.proofs.lemmas.Bool.{not-false, not-true}
 use Rattle.std.proofs.lemmas.List.{take_more}
-use Rattle.pc_file.specs.Spelling.{same_spelling}
-use Rattle.pc_file.proofs.NamesLemmas.{differ_more, differ_no_more}
-use Rattle.pc_file.proofs.names.Names.of.Goals as goal
+use Rattle.pc_names.specs.Spelling.{same_spelling}
+use Rattle.pc_names.proofs.NamesLemmas.{differ_more, differ_no_more}
+use Rattle.pc_names.proofs.names.Names.of.Goals as goal
 
 pub returns-then-not-branch : goal.returns-then-not-branch
 returns-then-not-branch c =

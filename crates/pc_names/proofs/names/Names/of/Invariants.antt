@@ -1,7 +1,7 @@
 use Rattle.std.proofs.Common.{◌≡◌, take, true}
 use Rattle.pc_base.specs.Distinct.{all_differ}
-use Rattle.pc_file.specs.Spelling.{same_spelling}
-use Rattle.pc_file.proofs.names.Names.of.Given as goal
+use Rattle.pc_names.specs.Spelling.{same_spelling}
+use Rattle.pc_names.proofs.names.Names.of.Given as goal
 
 abbrev pub invariant-loop-name : goal.invariant-loop-name
 invariant-loop-name l = record {

@@ -1,7 +1,7 @@
 use Rattle.std.proofs.Common.{length, sym, arith}
 use Rattle.std.proofs.lemmas.List.Sums.{position_or_len_is}
-use Rattle.pc_text.specs.LineWords.{is_space}
-use Rattle.pc_text.proofs.line_words.space_place.Goals as goal
+use Rattle.pc_names.specs.Spaces.{is_space}
+use Rattle.pc_names.proofs.spaces.space_place.Goals as goal
 
 pub returns-clause-place : goal.returns-clause-place
 returns-clause-place c =

@@ -7,7 +7,7 @@ use Rattle.std.proofs.lemmas.Bool.Decides.{same_from_decides}
 use Rattle.pc_base.specs.Distinct.{all_differ}
 use Rattle.pc_base.proofs.DistinctLemmas.{all_differ-push, all_differ-again}
 use Rattle.pc_names.proofs.Places.{name_eq-Decides}
-use Rattle.pc_file.specs.Spelling.{same_spelling}
+use Rattle.pc_names.specs.Spelling.{same_spelling}
 
 pub same_spelling-symmetric : (a b : List ℕ) → same_spelling a b ≡ same_spelling b a
 same_spelling-symmetric a b =
