@@ -15,8 +15,7 @@ use Rattle.pc_conn.specs.declared.body.Body.{Body}
 use Rattle.pc_conn.specs.declared.body.Body.TheVariants as body
 use Rattle.pc_conn.specs.declared.item.Item.{Item}
 use Rattle.pc_conn.specs.declared.item.Item.TheVariants as item
-use Rattle.pc_conn.specs.Items.{heard_call}
-use Rattle.pc_conn.specs.Items.{heard as heard_words}
+use Rattle.pc_conn.specs.Items.{heard as heard_words, heard_call}
 use Rattle.pc_conn.specs.BodyText.{body_of}
 use Rattle.pc_file.specs.PrintedForm.{text_of_lines}
 use Rattle.pc_script.specs.declared.item.Awaited.{Awaited}
@@ -24,8 +23,7 @@ use Rattle.pc_script.specs.declared.item.Heard.{Heard}
 use Rattle.pc_script.specs.declared.item.Heard.TheVariants as says
 use Rattle.pc_script.specs.declared.item.Said.{Said}
 use Rattle.pc_script.specs.Heard.{bad_at, caller_of, heard, heard_after, heard_command, heard_from, is_later, may_speak, of_caller, only_if, said_with}
-use Rattle.pc_script.specs.Script.{Script, commanded, publishing, body_after, body_text, heard_text, is_whole, line_after, line_text, said_after, said_of, said_text}
-use Rattle.pc_script.specs.Script.{heard_after as script_after}
+use Rattle.pc_script.specs.Script.{Script, commanded, publishing, body_after, body_text, heard_text, is_whole, line_after, line_text, said_after, said_of, said_text, heard_after as script_after}
 use Rattle.pc_script.specs.ScriptHistory.{body_said, line_said, said_once}
 
 -- the state of a script between two lines

@@ -10,8 +10,7 @@ use Rattle.pc_conn.specs.declared.body.Body.{Body}
 use Rattle.pc_conn.specs.declared.item.Heard.{Heard as HeardWords}
 use Rattle.pc_conn.specs.declared.item.Heard.TheVariants as words
 use Rattle.pc_conn.specs.declared.item.Item.TheVariants.{Bad}
-use Rattle.pc_conn.specs.Items.{published}
-use Rattle.pc_conn.specs.Items.{heard as heard_words}
+use Rattle.pc_conn.specs.Items.{heard as heard_words, published}
 use Rattle.pc_script.specs.declared.item.Awaited.{Awaited}
 use Rattle.pc_script.specs.declared.item.Heard.{Heard}
 use Rattle.pc_script.specs.declared.item.Heard.TheVariants as says
