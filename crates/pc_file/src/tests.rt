@@ -14,7 +14,6 @@ fn files_cross_threads() {
     crosses_threads::<Variable>();
     crosses_threads::<Value>();
     crosses_threads::<Catalogue>();
-    crosses_threads::<Names>();
     crosses_threads::<PlainFault>();
     crosses_threads::<FileFault>();
 }

@@ -7,6 +7,7 @@ use std::test::Fail;
 fn names_cross_threads() {
     crosses_threads::<Name>();
     crosses_threads::<NameFault>();
+    crosses_threads::<Names>();
 }
 
 #[test]

@@ -1,4 +1,4 @@
-use Rattle.std.proofs.Common.{◌<◌, ◌≤◌, length, ◌-◌, take, drop, sym, ap, ◌∙◌, arith}
+use Rattle.std.proofs.Common.{◌<◌, ◌≤◌, length, ◌-◌, take, drop, ap, ◌∙◌, arith}
 use Rattle.std.specs.List.{before_first}
 use Rattle.pc_names.specs.Spaces.{is_space}
 use Rattle.pc_calls.proofs.LineWordLemmas.{spaces, no_word_from, first_word_from, slice_rest}
