@@ -1,42 +1,48 @@
 //! Sets that are built of many others.
 
-ghost use Rattle.std.specs.Prelude.{◌≡◌, ◌<◌, ◌≤◌, ◌+◌, length, IfOk};
+ghost use Rattle.std.specs.Prelude.{◌≡◌, ◌<◌, ◌≤◌, ◌+◌, ◌*◌, length, All, IfOk};
 ghost use Rattle.pc_store.specs.Sets.{domains_of, IsIdAt, Keeps};
 
-use pc_apply::{and, at_most};
+use pc_apply::and;
 use pc_base::NoMemory;
 use pc_store::{Id, Store};
 use std::alloc::Global;
 
-/// The nodes of the words over so many variables of two values and as many again in which each of the first takes the
-/// value of its fellow among the second.
-pub fn same_pairs(alloc: Global, pairs: u32) -> Result<u64, NoMemory>
-    requires some { 0 < pairs }
-    requires few { pairs ≤ 32 }
-{
-    let domains = vec![in alloc; 2u32; 2 * pairs as usize]?;
-    let mut store = Store::new(alloc, domains.as_slice())?;
-    let mut all = store.full(0);
-    for first in 0..pairs {
-        let same = same(&mut store, first, pairs + first)?;
-        all = and(&mut store, all, same)?;
-    }
-    store.size(all)
-}
-
-/// The nodes of the words over so many variables of eight values in which at most so many take their first value.
-pub fn few_first(alloc: Global, most: u32, variables: u32) -> Result<u64, NoMemory>
+/// A store over so many variables of so many values each.
+pub fn store_of(alloc: Global, values: u32, variables: u32) -> Result<Store, NoMemory>
+    requires values { (0 < values) × (values ≤ 64) }
     requires some { 0 < variables }
     requires few { variables ≤ 64 }
+    ensures { IfOk result (λ store. length (domains_of store) ≡ variables) }
 {
-    let domains = vec![in alloc; 8u32; variables as usize]?;
-    let mut store = Store::new(alloc, domains.as_slice())?;
-    let mut members = Vec::with_capacity(alloc, variables as usize)?;
-    for variable in 0..variables {
-        members.push(takes_first(&mut store, variable)?)?;
+    let domains = vec![in alloc; values; variables as usize]?;
+    Store::new(alloc, domains.as_slice())
+}
+
+/// The words over twice so many variables in which each of the first half takes the value of its fellow in the second.
+pub fn same_pairs(store: &mut Store, pairs: u32) -> Result<Id, NoMemory>
+    requires variables { length (domains_of store.old) ≡ 2 * pairs }
+    requires few { pairs ≤ 32 }
+    ensures is_id { IfOk result (IsIdAt store.new 0) }
+{
+    let mut all = store.full(0);
+    for first in 0..pairs {
+        let same = same(store, first, pairs + first)?;
+        all = and(store, all, same)?;
     }
-    let few = at_most(&mut store, most, members.as_slice())?;
-    store.size(few)
+    Ok(all)
+}
+
+/// For each variable, the words in which it takes its first value.
+pub fn first_values(store: &mut Store) -> Result<Vec<Id>, NoMemory>
+    ensures is_id { IfOk result (λ ids. All (IsIdAt store.new 0) ids.items) }
+{
+    let variables = store.variables();
+    let mut ids = Vec::with_capacity(store.allocator(), variables as usize)?;
+    for variable in 0..variables {
+        ids.push(takes_first(store, variable)?)?;
+    }
+    Ok(ids)
 }
 
 /// The words in which two variables of two values take the same one.

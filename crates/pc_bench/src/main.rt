@@ -8,24 +8,31 @@ ghost use Rattle.std.specs.Prelude.{◌<◌, ◌≤◌, IfOk, IfSome};
 mod build;
 
 use anyhow::Result;
-use build::{few_first, same_pairs};
+use build::{first_values, same_pairs, store_of};
+use pc_apply::at_most;
 use std::time::Instant;
 use std::{env, fs, io};
 
-/// The pairs of the small sets.
+/// The pairs, and the variables of eight values, of the small sets.
 const SMALL: u32 = 4;
 
 fn main(rt: HostRuntime) -> Result<()> {
     match pairs(&rt)? {
         Some(pairs) => measure(&rt, pairs),
-        None => {
-            let same = same_pairs(rt.alloc(), SMALL)?;
-            println!(rt; "{SMALL} pairs alike: {same} nodes")?;
-            let few = few_first(rt.alloc(), 3, SMALL)?;
-            println!(rt; "at most 3 of {SMALL}: {few} nodes")?;
-            Ok(())
-        }
+        None => tell_small(&rt),
     }
+}
+
+/// Tells the nodes of small sets.
+fn tell_small(rt: &HostRuntime) -> Result<()> {
+    let mut store = store_of(rt.alloc(), 2, 2 * SMALL)?;
+    let same = same_pairs(&mut store, SMALL)?;
+    println!(rt; "{SMALL} pairs alike: {} nodes", store.size(same)?)?;
+    let mut store = store_of(rt.alloc(), 8, SMALL)?;
+    let members = first_values(&mut store)?;
+    let few = at_most(&mut store, 3, members.as_slice())?;
+    println!(rt; "at most 3 of {SMALL}: {} nodes", store.size(few)?)?;
+    Ok(())
 }
 
 /// The number that the first argument gives, if there is one from 1 to 32.
@@ -47,20 +54,41 @@ fn measure(rt: &HostRuntime, pairs: u32) -> Result<()>
     requires some { 0 < pairs }
     requires few { pairs ≤ 32 }
 {
-    let start = Instant::now(rt)?;
-    let same = same_pairs(rt.alloc(), pairs)?;
-    println!(rt;
-        "{pairs} pairs alike: {same} nodes in {:?}",
-        start.elapsed(rt)?
-    )?;
-    let start = Instant::now(rt)?;
-    let few = few_first(rt.alloc(), 3, 64)?;
-    println!(rt; "at most 3 of 64: {few} nodes in {:?}", start.elapsed(rt)?)?;
+    measure_pairs(rt, pairs)?;
+    measure_few(rt)?;
     let status = fs::read_to_string(rt, "/proc/self/status")?;
     for line in status.as_str().lines() {
         if line.starts_with("VmHWM") {
             println!(rt; "{line}")?;
         }
     }
+    Ok(())
+}
+
+/// Tells the nodes of the words whose pairs are alike, and how long it took to build their sets and join them.
+fn measure_pairs(rt: &HostRuntime, pairs: u32) -> Result<()>
+    requires some { 0 < pairs }
+    requires few { pairs ≤ 32 }
+{
+    let mut store = store_of(rt.alloc(), 2, 2 * pairs)?;
+    let start = Instant::now(rt)?;
+    let same = same_pairs(&mut store, pairs)?;
+    let time = start.elapsed(rt)?;
+    println!(rt;
+        "{pairs} pairs alike: {} nodes in {time:?}",
+        store.size(same)?
+    )?;
+    Ok(())
+}
+
+/// Tells the nodes of the words over 64 variables of eight values of which at most three take their first value, and
+/// how long that one operation took.
+fn measure_few(rt: &HostRuntime) -> Result<()> {
+    let mut store = store_of(rt.alloc(), 8, 64)?;
+    let members = first_values(&mut store)?;
+    let start = Instant::now(rt)?;
+    let few = at_most(&mut store, 3, members.as_slice())?;
+    let time = start.elapsed(rt)?;
+    println!(rt; "at most 3 of 64: {} nodes in {time:?}", store.size(few)?)?;
     Ok(())
 }
