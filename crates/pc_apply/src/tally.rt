@@ -18,7 +18,8 @@ pub(crate) struct Tally {
 }
 
 impl Tally {
-    ghost use Rattle.pc_apply.specs.Tallies.{HasSets, IsExceeded, CountsIn, Exceeds, Follows, Answers};
+    ghost use Rattle.pc_apply.specs.Tallies.{HasSets, IsExceeded, CountsIn, Exceeds, IsLeft, tallies_at};
+    ghost use Rattle.pc_apply.specs.Levels.{Answers};
 
     /// What is left to count after a value.
     pub(crate) fn after(
@@ -32,7 +33,7 @@ impl Tally {
         requires few { layer < 64 }
         requires in_range { value < slice_index (domains_of store.now) layer }
         requires sets { HasSets store.now layer self.now }
-        ensures { IfOk result (Follows store.now layer self.now value) }
+        ensures { IfOk result (IsLeft store.now layer self.now value) }
     {
         let mut next = Tally {
             most: self.most,
@@ -80,7 +81,7 @@ impl Tally {
     pub(crate) fn settled(&self, store: &Store, layer: u32, within: bool) -> Option<Id>
         requires layer { layer ≤ length (domains_of store.now) }
         requires sets { HasSets store.now layer self.now }
-        ensures { IfSome result (Answers store.now store.now layer within self.now) }
+        ensures { IfSome result (Answers store.now store.now layer (tallies_at store.now layer within) self.now) }
     {
         store.words_are_over_domains();
         match self.sets.as_slice() {
@@ -96,7 +97,7 @@ impl Tally {
     /// The same past the last variable, where each set has the empty word or none.
     pub(crate) fn at_end(&self, store: &Store, within: bool) -> Id
         requires { HasSets store.now (length (domains_of store.now)) self.now }
-        ensures { Answers store.now store.now (length (domains_of store.now)) within self.now result }
+        ensures { Answers store.now store.now (length (domains_of store.now)) (tallies_at store.now (length (domains_of store.now)) within) self.now result }
     {
         let mut count = 0usize;
         for set in self.sets.as_slice() {
