@@ -2,10 +2,11 @@
 
 ghost use Rattle.std.specs.Prelude.{◌≡◌, ◌<◌, ◌+◌, Bool, length, slice_index, IfOk, OnOk};
 ghost use Rattle.pc_store.specs.Sets.{domains_of};
-ghost use Rattle.pc_apply.specs.Levels.{AllAt, LeadsFrom, Fits, EachFits, Planned, StandsFor, with_state};
-ghost use Rattle.pc_apply.specs.Tallies.{HasSets, same_tally, tallies_at};
+ghost use Rattle.pc_apply.specs.Levels.{AllAt, LeadsFrom, Fits, EachFits, Planned};
+ghost use Rattle.pc_apply.specs.Tallies.{HasSets, tallies_at};
 
 use crate::plan::Plan;
+use crate::states::{number, place};
 use crate::tally::Tally;
 use indexmap::IndexSet;
 use pc_base::NoMemory;
@@ -94,19 +95,4 @@ fn expand(
         targets.push(place(below, next)?)?;
     }
     Ok(())
-}
-
-/// The place of a tally, which goes to the end if it isn't there.
-fn place(below: &mut IndexSet<Tally>, tally: Tally) -> Result<u32, NoMemory>
-    ensures stands { IfOk result (λ n. StandsFor same_tally below.new.keys n tally) }
-    ensures keys { OnOk result (below.new.keys ≡ with_state same_tally below.old.keys tally) }
-{
-    let (place, _) = below.insert_full(tally)?;
-    number(place)
-}
-
-fn number(place: usize) -> Result<u32, NoMemory>
-    ensures { IfOk result (λ n. n ≡ place) }
-{
-    u32::try_from(place).map_err(|_| NoMemory)
 }

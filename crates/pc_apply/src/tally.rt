@@ -4,6 +4,7 @@ ghost use Rattle.std.specs.Prelude.{◌≡◌, ◌<◌, ◌≤◌, ◌+◌, ◌&
 ghost use Rattle.pc_diagram.specs.Words.{is_word};
 ghost use Rattle.pc_store.specs.Sets.{domains_of, IsIdAt, has};
 
+use crate::ends::{all_or_none, has_empty_word};
 use pc_base::NoMemory;
 use pc_store::{Id, Store};
 use smallvec::SmallVec;
@@ -107,27 +108,5 @@ impl Tally {
         }
         let is_within = count <= self.most as usize;
         all_or_none(store, store.variables(), is_within == within)
-    }
-}
-
-/// Whether a set past the last variable has the empty word.
-fn has_empty_word(store: &Store, set: Id) -> bool
-    requires { IsIdAt store.now (length (domains_of store.now)) set }
-    ensures { result ≡ has store.now set [] }
-{
-    store.words_are_over_domains();
-    store.same_set(set, store.full_end())
-}
-
-/// The set of all words of a layer, or of none.
-fn all_or_none(store: &Store, layer: u32, all: bool) -> Id
-    requires { layer ≤ length (domains_of store.now) }
-    ensures is_id { IsIdAt store.now layer result }
-    ensures set { (word : List ℕ) → has store.now result word ≡ (all && is_word (drop layer (domains_of store.now)) word) }
-{
-    if all {
-        store.full(layer)
-    } else {
-        store.empty(layer)
     }
 }

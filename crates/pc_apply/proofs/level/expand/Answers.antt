@@ -14,8 +14,8 @@ loop-value-preserved c =
     λ within.
     let question = tallies_at c.args.store.now c.args.layer within in
     let next_question = tallies_at c.args.store.now (c.args.layer + 1) within in
-    subst (Expanded c.args.store.now c.args.layer question next_question c.args.tally.now (c.loop-value.value + 1) c.args.below.now.keys c.place.new.below.keys c.args.targets.now.items) (sym {A = List ℕ} c.in_ok-push.ensures.items)
-    (expanded_more same_tally c.args.store.now c.args.layer question next_question c.args.tally.now c.loop-value.value c.args.below.now.keys c.loop-value.below.keys c.args.targets.now.items c.loop-value.targets.items c.in_ok-next.next c.in_ok-place.field-0 c.place.new.below.keys
+    subst (Expanded c.args.store.now c.args.layer question next_question c.args.tally.now (c.loop-value.value + 1) c.args.below.now.keys c.place.new.states.keys c.args.targets.now.items) (sym {A = List ℕ} c.in_ok-push.ensures.items)
+    (expanded_more same_tally c.args.store.now c.args.layer question next_question c.args.tally.now c.loop-value.value c.args.below.now.keys c.loop-value.below.keys c.args.targets.now.items c.loop-value.targets.items c.in_ok-next.next c.in_ok-place.field-0 c.place.new.states.keys
     (tallies_alike c.args.store.now c.args.layer within) (c.loop-value.invariant within) (counting_follows c.args.store.now c.args.layer within c.args.tally.now c.loop-value.value c.in_ok-next.next c.in_ok-next.ensures) c.in_ok-place.ensures.stands c.in_ok-place.ensures.keys)
 
 pub returns-clause-leads : goal.returns-clause-leads
