@@ -4,8 +4,11 @@ ghost use Rattle.std.specs.Prelude.{◌≡◌, ℕ, List, ◌&&◌, ◌||◌, no
 ghost use Rattle.pc_diagram.specs.Words.{is_word};
 ghost use Rattle.pc_store.specs.Sets.{domains_of, IsIdAt, has, Keeps};
 ghost use Rattle.pc_apply.specs.Counting.{is_within};
+ghost use Rattle.pc_apply.specs.Pairs.{holds};
 ghost use Rattle.pc_apply.specs.Tallies.{asked};
 
+use crate::pair::{Operation, Pair};
+use crate::pair_product::sets_of_pairs;
 use crate::product::sets_of;
 use crate::tally::Tally;
 use pc_base::NoMemory;
@@ -20,8 +23,7 @@ pub fn and(store: &mut Store, a: Id, b: Id) -> Result<Id, NoMemory>
     ensures set { IfOk result (λ id. (word : List ℕ) → has store.new id word ≡ (has store.old a word && has store.old b word)) }
     ensures keeps { Keeps store.old store.new }
 {
-    store.words_are_over_domains();
-    count(store, 1, &[a, b], false)
+    combine(store, Operation::And, a, b)
 }
 
 /// The words in either set of the first layer, or in both. Want of memory leaves the store as it was but for more
@@ -33,8 +35,7 @@ pub fn or(store: &mut Store, a: Id, b: Id) -> Result<Id, NoMemory>
     ensures set { IfOk result (λ id. (word : List ℕ) → has store.new id word ≡ (has store.old a word || has store.old b word)) }
     ensures keeps { Keeps store.old store.new }
 {
-    store.words_are_over_domains();
-    count(store, 0, &[a, b], false)
+    combine(store, Operation::Or, a, b)
 }
 
 /// The words over the domains that aren't in the set, which is of the first layer. Want of memory leaves the store as
@@ -45,7 +46,8 @@ pub fn not(store: &mut Store, a: Id) -> Result<Id, NoMemory>
     ensures set { IfOk result (λ id. (word : List ℕ) → has store.new id word ≡ (is_word (domains_of store.old) word && negated (has store.old a word))) }
     ensures keeps { Keeps store.old store.new }
 {
-    count(store, 0, &[a], true)
+    let all = store.full(0);
+    combine(store, Operation::Without, all, a)
 }
 
 /// The words over the domains that are in at most so many of the members, which are of the first layer. A set that
@@ -57,6 +59,24 @@ pub fn at_most(store: &mut Store, most: u32, members: &[Id]) -> Result<Id, NoMem
     ensures keeps { Keeps store.old store.new }
 {
     count(store, most, members, true)
+}
+
+/// The words that an operation asks for of two sets.
+fn combine(store: &mut Store, operation: Operation, left: Id, right: Id) -> Result<Id, NoMemory>
+    requires left { IsIdAt store.old 0 left }
+    requires right { IsIdAt store.old 0 right }
+    ensures is_id { IfOk result (IsIdAt store.new 0) }
+    ensures set { IfOk result (λ id. (word : List ℕ) → has store.new id word ≡ holds operation (has store.old left word) (has store.old right word)) }
+    ensures keeps { Keeps store.old store.new }
+{
+    store.words_are_over_domains();
+    let alloc = store.allocator();
+    let pair = Pair {
+        left: left.node(),
+        right: right.node(),
+    };
+    let ids = sets_of_pairs(alloc, store, 0, operation, &[pair])?;
+    Ok(ids[0])
 }
 
 /// The words over the domains that are in at most so many of the sets, or those that are in more.
