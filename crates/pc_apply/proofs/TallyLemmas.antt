@@ -8,7 +8,8 @@ use Rattle.pc_store.specs.declared.store.Store.{Store}
 use Rattle.pc_store.specs.Sets.{has}
 use Rattle.pc_apply.specs.declared.tally.Tally.{Tally}
 use Rattle.pc_apply.specs.Counting.{count_of}
-use Rattle.pc_apply.specs.Tallies.{is_over, HasSets, CountsIn, Exceeds, IsExceeded, Follows}
+use Rattle.pc_apply.specs.Levels.{is_over}
+use Rattle.pc_apply.specs.Tallies.{HasSets, CountsIn, Exceeds, IsExceeded, IsLeft}
 
 -- the children for a value of the first sets have been counted in
 pub record Counted (store : Store) (below value most : ℕ) (sets : List Id) (next : Tally) : Type 0 where
@@ -40,7 +41,7 @@ counted_more store below value most sets i set child old new lt read child_is so
 }
 
 -- all children have been counted in
-pub follows_all : (store : Store) (layer value : ℕ) (tally next : Tally) (sets : List Id) (i : ℕ) → sets ≡ tally.sets.items → length sets ≤ i → Counted store (layer + 1) value tally.most (take i sets) next → Follows store layer tally value next
+pub follows_all : (store : Store) (layer value : ℕ) (tally next : Tally) (sets : List Id) (i : ℕ) → sets ≡ tally.sets.items → length sets ≤ i → Counted store (layer + 1) value tally.most (take i sets) next → IsLeft store layer tally value next
 follows_all store layer value tally next sets i are ge c = record {
   sets = c.ids;
   same = λ word over.
@@ -57,7 +58,7 @@ count_part store sets i word = sum_by-take-le (λ set. cond (has store set word)
 
 -- a set too many has been met
 pub follows_exceeded : (store : Store) (layer value : ℕ) (tally old next : Tally) (sets : List Id) (i : ℕ) (set child : Id) → sets ≡ tally.sets.items → i < length sets → set ≡ get_or sets i set → ((word : List ℕ) → has store child word ≡ has store set (value ∷ word)) →
-    Counted store (layer + 1) value tally.most (take i sets) old → Exceeds store (layer + 1) old child → IsExceeded store (layer + 1) next → Follows store layer tally value next
+    Counted store (layer + 1) value tally.most (take i sets) old → Exceeds store (layer + 1) old child → IsExceeded store (layer + 1) next → IsLeft store layer tally value next
 follows_exceeded store layer value tally old next sets i set child are lt read child_is so_far too_many none = record {
   sets = none.sets;
   same = λ word over.

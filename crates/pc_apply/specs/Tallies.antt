@@ -1,15 +1,12 @@
--- What is asked of the tallies of a layer, and the sets that answer.
-use Rattle.std.specs.Prelude.{◌≡◌, ℕ, ◌+◌, List, ◌∷◌, Bool, true, false, not, ◌&&◌, cond, drop, All}
-use Rattle.pc_diagram.specs.Words.{is_word}
+-- What is asked of the tallies of a layer.
+use Rattle.std.specs.Prelude.{◌≡◌, ℕ, ◌+◌, List, ◌∷◌, Bool, true, false, not, ◌&&◌, cond, nat_eq, All}
+use Rattle.std.specs.Cmp.Lexicographic.{pointwise}
 use Rattle.pc_store.specs.declared.id.Id.{Id}
 use Rattle.pc_store.specs.declared.store.Store.{Store}
-use Rattle.pc_store.specs.Sets.{domains_of, IsIdAt, has}
+use Rattle.pc_store.specs.Sets.{IsIdAt, has}
 use Rattle.pc_apply.specs.declared.tally.Tally.{Tally}
 use Rattle.pc_apply.specs.Counting.{count_of, is_within}
-
--- a word is one over the variables from a layer on
-abbrev pub is_over : Store → ℕ → List ℕ → Bool
-is_over store layer word = is_word (drop layer (domains_of store)) word
+use Rattle.pc_apply.specs.Levels.{Question, is_over}
 
 -- a word is within a tally: it lies in at most so many of its sets
 abbrev pub counts : Store → Tally → List ℕ → Bool
@@ -19,10 +16,6 @@ counts store tally word = is_within store tally.most tally.sets.items word
 abbrev pub asked : Bool → Bool → Bool
 asked true within = within
 asked false within = not within
-
--- the words of a layer that are within a tally, or those that aren't
-abbrev pub wanted : Store → ℕ → Bool → Tally → List ℕ → Bool
-wanted store layer within tally word = is_over store layer word && asked within (counts store tally word)
 
 -- the sets of a tally are of a layer
 abbrev pub HasSets : Store → ℕ → Tally → Type 0
@@ -44,11 +37,18 @@ pub record IsExceeded (store : Store) (layer : ℕ) (tally : Tally) : Type 0 whe
   pub none : (word : List ℕ) → is_over store layer word ≡ true → counts store tally word ≡ false
 
 -- what is left to count of a tally after a value
-pub record Follows (store : Store) (layer : ℕ) (tally : Tally) (value : ℕ) (next : Tally) : Type 0 where
+pub record IsLeft (store : Store) (layer : ℕ) (tally : Tally) (value : ℕ) (next : Tally) : Type 0 where
   pub sets : HasSets store (layer + 1) next
   pub same : (word : List ℕ) → is_over store (layer + 1) word ≡ true → counts store next word ≡ counts store tally (value ∷ word)
 
--- in a later state of the store an id has the words that are asked
-pub record Answers (first now : Store) (layer : ℕ) (within : Bool) (tally : Tally) (id : Id) : Type 0 where
-  pub is_id : IsIdAt now layer id
-  pub words : (word : List ℕ) → has now id word ≡ wanted first layer within tally word
+-- the tallies of a layer, and the words that are within them, or those that aren't
+abbrev pub tallies_at : Store → ℕ → Bool → Question Tally
+tallies_at store layer within = record { IsAt = HasSets store layer; asks = λ tally word. asked within (counts store tally word) }
+
+-- equality of ids
+abbrev pub same_id : Id → Id → Bool
+same_id a b = nat_eq a.layer b.layer && nat_eq a.node b.node
+
+-- tallies that count alike
+abbrev pub same_tally : Tally → Tally → Bool
+same_tally a b = nat_eq a.most b.most && pointwise same_id a.sets.items b.sets.items

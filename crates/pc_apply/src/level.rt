@@ -1,11 +1,12 @@
 //! One layer of a product.
 
-ghost use Rattle.std.specs.Prelude.{◌≡◌, ◌<◌, ◌+◌, length, slice_index, IfOk, OnOk};
+ghost use Rattle.std.specs.Prelude.{◌≡◌, ◌<◌, ◌+◌, Bool, length, slice_index, IfOk, OnOk};
 ghost use Rattle.pc_store.specs.Sets.{domains_of};
-ghost use Rattle.pc_apply.specs.Levels.{HaveSets, LeadsFrom, Fits, EachFits, Planned, StandsFor, with_tally};
-ghost use Rattle.pc_apply.specs.Tallies.{HasSets};
+ghost use Rattle.pc_apply.specs.Levels.{AllAt, LeadsFrom, Fits, EachFits, Planned};
+ghost use Rattle.pc_apply.specs.Tallies.{HasSets, tallies_at};
 
 use crate::plan::Plan;
+use crate::states::{number, place};
 use crate::tally::Tally;
 use indexmap::IndexSet;
 use pc_base::NoMemory;
@@ -30,8 +31,8 @@ pub(crate) fn plan_level(
 ) -> Result<Level, NoMemory>
     requires inner { layer < length (domains_of store.now) }
     requires few { layer < 64 }
-    requires sets { HaveSets store.now layer tallies.now }
-    ensures { IfOk result (λ level. EachFits store.now layer within tallies.now level.below.keys level.targets.items level.plans.items) }
+    requires sets { AllAt (HasSets store.now layer) tallies.now }
+    ensures { IfOk result (λ level. EachFits store.now layer (tallies_at store.now layer within) (tallies_at store.now (layer + 1) within) tallies.now level.below.keys level.targets.items level.plans.items) }
 {
     let mut plans = Vec::with_capacity(alloc, tallies.len())?;
     let mut targets = Vec::new(alloc);
@@ -59,9 +60,9 @@ fn plan_for(
     requires inner { layer < length (domains_of store.now) }
     requires few { layer < 64 }
     requires sets { HasSets store.now layer tally.now }
-    requires below { HaveSets store.now (layer + 1) below.old.keys }
-    ensures plan { IfOk result (Fits store.now layer within tally.now below.new.keys targets.new.items) }
-    ensures more { OnOk result (Planned store.now layer below.old.keys below.new.keys targets.old.items targets.new.items) }
+    requires below { AllAt (HasSets store.now (layer + 1)) below.old.keys }
+    ensures plan { IfOk result (Fits store.now layer (tallies_at store.now layer within) (tallies_at store.now (layer + 1) within) tally.now below.new.keys targets.new.items) }
+    ensures more { OnOk result (Planned (HasSets store.now (layer + 1)) below.old.keys below.new.keys targets.old.items targets.new.items) }
 {
     match tally.settled(store, layer, within) {
         Some(id) => Ok(Plan::Known(id)),
@@ -85,28 +86,13 @@ fn expand(
     requires inner { layer < length (domains_of store.now) }
     requires few { layer < 64 }
     requires sets { HasSets store.now layer tally.now }
-    requires below { HaveSets store.now (layer + 1) below.old.keys }
-    ensures leads { OnOk result (LeadsFrom store.now layer tally.now below.new.keys targets.new.items (length targets.old.items) (slice_index (domains_of store.now) layer)) }
-    ensures more { OnOk result (Planned store.now layer below.old.keys below.new.keys targets.old.items targets.new.items) }
+    requires below { AllAt (HasSets store.now (layer + 1)) below.old.keys }
+    ensures leads { OnOk result ((within : Bool) → LeadsFrom store.now layer (tallies_at store.now layer within) (tallies_at store.now (layer + 1) within) tally.now below.new.keys targets.new.items (length targets.old.items) (slice_index (domains_of store.now) layer)) }
+    ensures more { OnOk result (Planned (HasSets store.now (layer + 1)) below.old.keys below.new.keys targets.old.items targets.new.items) }
 {
     for value in 0..store.domain(layer) {
         let next = tally.after(alloc, store, layer, value)?;
         targets.push(place(below, next)?)?;
     }
     Ok(())
-}
-
-/// The place of a tally, which goes to the end if it isn't there.
-fn place(below: &mut IndexSet<Tally>, tally: Tally) -> Result<u32, NoMemory>
-    ensures stands { IfOk result (λ n. StandsFor below.new.keys n tally) }
-    ensures keys { OnOk result (below.new.keys ≡ with_tally below.old.keys tally) }
-{
-    let (place, _) = below.insert_full(tally)?;
-    number(place)
-}
-
-fn number(place: usize) -> Result<u32, NoMemory>
-    ensures { IfOk result (λ n. n ≡ place) }
-{
-    u32::try_from(place).map_err(|_| NoMemory)
 }

@@ -4,10 +4,12 @@
 #![tactic(auto)]
 
 mod build;
+mod ends;
 mod level;
 mod operations;
 mod plan;
 mod product;
+mod states;
 mod tally;
 
 pub use operations::{and, at_most, not, or};

@@ -2,7 +2,8 @@
 
 ghost use Rattle.std.specs.Prelude.{◌≡◌, ◌<◌, ◌≤◌, ◌+◌, length, IfOk};
 ghost use Rattle.pc_store.specs.Sets.{domains_of, Keeps};
-ghost use Rattle.pc_apply.specs.Levels.{HaveSets, EachAnswers};
+ghost use Rattle.pc_apply.specs.Levels.{AllAt, EachAnswers};
+ghost use Rattle.pc_apply.specs.Tallies.{HasSets, tallies_at};
 
 use crate::build::carry_out_all;
 use crate::level::plan_level;
@@ -20,8 +21,8 @@ pub(crate) fn sets_of(
     tallies: &[Tally],
 ) -> Result<Vec<Id>, NoMemory>
     requires layer { layer ≤ length (domains_of store.old) }
-    requires sets { HaveSets store.old layer tallies.now }
-    ensures ids { IfOk result (λ ids. EachAnswers store.old store.new layer within tallies.now ids.items) }
+    requires sets { AllAt (HasSets store.old layer) tallies.now }
+    ensures ids { IfOk result (λ ids. EachAnswers store.old store.new layer (tallies_at store.old layer within) tallies.now ids.items) }
     ensures keeps { Keeps store.old store.new }
 {
     if layer == store.variables() {
@@ -46,8 +47,8 @@ fn ends_of(
     within: bool,
     tallies: &[Tally],
 ) -> Result<Vec<Id>, NoMemory>
-    requires { HaveSets store.now (length (domains_of store.now)) tallies.now }
-    ensures { IfOk result (λ ids. EachAnswers store.now store.now (length (domains_of store.now)) within tallies.now ids.items) }
+    requires { AllAt (HasSets store.now (length (domains_of store.now))) tallies.now }
+    ensures { IfOk result (λ ids. EachAnswers store.now store.now (length (domains_of store.now)) (tallies_at store.now (length (domains_of store.now)) within) tallies.now ids.items) }
 {
     let mut ids = Vec::with_capacity(alloc, tallies.len())?;
     for tally in tallies {

@@ -4,6 +4,7 @@ ghost use Rattle.std.specs.Prelude.{◌≡◌, ◌<◌, ◌≤◌, ◌+◌, ◌&
 ghost use Rattle.pc_diagram.specs.Words.{is_word};
 ghost use Rattle.pc_store.specs.Sets.{domains_of, IsIdAt, has};
 
+use crate::ends::{all_or_none, has_empty_word};
 use pc_base::NoMemory;
 use pc_store::{Id, Store};
 use smallvec::SmallVec;
@@ -18,7 +19,8 @@ pub(crate) struct Tally {
 }
 
 impl Tally {
-    ghost use Rattle.pc_apply.specs.Tallies.{HasSets, IsExceeded, CountsIn, Exceeds, Follows, Answers};
+    ghost use Rattle.pc_apply.specs.Tallies.{HasSets, IsExceeded, CountsIn, Exceeds, IsLeft, tallies_at};
+    ghost use Rattle.pc_apply.specs.Levels.{Answers};
 
     /// What is left to count after a value.
     pub(crate) fn after(
@@ -32,7 +34,7 @@ impl Tally {
         requires few { layer < 64 }
         requires in_range { value < slice_index (domains_of store.now) layer }
         requires sets { HasSets store.now layer self.now }
-        ensures { IfOk result (Follows store.now layer self.now value) }
+        ensures { IfOk result (IsLeft store.now layer self.now value) }
     {
         let mut next = Tally {
             most: self.most,
@@ -80,7 +82,7 @@ impl Tally {
     pub(crate) fn settled(&self, store: &Store, layer: u32, within: bool) -> Option<Id>
         requires layer { layer ≤ length (domains_of store.now) }
         requires sets { HasSets store.now layer self.now }
-        ensures { IfSome result (Answers store.now store.now layer within self.now) }
+        ensures { IfSome result (Answers store.now store.now layer (tallies_at store.now layer within) self.now) }
     {
         store.words_are_over_domains();
         match self.sets.as_slice() {
@@ -96,7 +98,7 @@ impl Tally {
     /// The same past the last variable, where each set has the empty word or none.
     pub(crate) fn at_end(&self, store: &Store, within: bool) -> Id
         requires { HasSets store.now (length (domains_of store.now)) self.now }
-        ensures { Answers store.now store.now (length (domains_of store.now)) within self.now result }
+        ensures { Answers store.now store.now (length (domains_of store.now)) (tallies_at store.now (length (domains_of store.now)) within) self.now result }
     {
         let mut count = 0usize;
         for set in self.sets.as_slice() {
@@ -106,27 +108,5 @@ impl Tally {
         }
         let is_within = count <= self.most as usize;
         all_or_none(store, store.variables(), is_within == within)
-    }
-}
-
-/// Whether a set past the last variable has the empty word.
-fn has_empty_word(store: &Store, set: Id) -> bool
-    requires { IsIdAt store.now (length (domains_of store.now)) set }
-    ensures { result ≡ has store.now set [] }
-{
-    store.words_are_over_domains();
-    store.same_set(set, store.full_end())
-}
-
-/// The set of all words of a layer, or of none.
-fn all_or_none(store: &Store, layer: u32, all: bool) -> Id
-    requires { layer ≤ length (domains_of store.now) }
-    ensures is_id { IsIdAt store.now layer result }
-    ensures set { (word : List ℕ) → has store.now result word ≡ (all && is_word (drop layer (domains_of store.now)) word) }
-{
-    if all {
-        store.full(layer)
-    } else {
-        store.empty(layer)
     }
 }

@@ -15,7 +15,15 @@ pub struct Id {
 
 impl Id {
     ghost use Rattle.std.specs.Prelude.{◌≡◌};
-    ghost use Rattle.pc_store.specs.Sets.{layer_of};
+    ghost use Rattle.pc_store.specs.Sets.{layer_of, id_at};
+
+    /// The id of a node of a layer. It names a set only where the layer of the store has that node.
+    #[tactic(auto, unfolding(crate::specs::Sets::id_at))]
+    pub fn at(layer: u32, node: u32) -> Id
+        ensures { result ≡ id_at layer node }
+    {
+        Id { layer, node }
+    }
 
     /// The layer, counted from 0. Past the last variable stands one more layer.
     #[tactic(auto, unfolding(crate::specs::Sets::layer_of))]
@@ -23,6 +31,14 @@ impl Id {
         ensures { result ≡ layer_of self }
     {
         self.layer
+    }
+
+    /// The number of its node among those of its layer.
+    #[tactic(auto, unfolding(crate::specs::Sets::id_at, crate::specs::Sets::layer_of))]
+    pub fn node(self) -> u32
+        ensures { self ≡ id_at (layer_of self) result }
+    {
+        self.node
     }
 }
 
