@@ -2,6 +2,7 @@
 
 ghost use Rattle.std.specs.Prelude.{◌≡◌, map, OnOk};
 
+use crate::table::Row;
 use pc_base::NoMemory;
 
 /// A set of words that a store keeps, from a layer on: each word has a value of every variable from that layer to the
@@ -42,7 +43,7 @@ impl Id {
 }
 
 /// Makes a row of the nodes of sets.
-pub(crate) fn write_nodes(row: &mut Vec<u32>, children: &[Id]) -> Result<(), NoMemory>
+pub(crate) fn write_nodes(row: &mut Row, children: &[Id]) -> Result<(), NoMemory>
     ensures { OnOk result (row.new.items ≡ map (λ child. child.node) children.now) }
 {
     row.clear();

@@ -7,7 +7,9 @@ ghost use Rattle.pc_diagram.specs.Words.{is_word};
 use crate::id::{Id, write_nodes};
 use crate::layer::{Layer, intern_at, new_layers};
 use crate::size::{EMPTY, size_of};
+use crate::table::Row;
 use pc_base::NoMemory;
+use smallvec::SmallVec;
 use std::alloc::Global;
 use std::marker::Model;
 
@@ -22,7 +24,7 @@ pub struct Store {
     layers: Vec<Layer>,
 
     // The row that is looked up, so that a look-up takes no memory.
-    row: Vec<u32>,
+    row: Row,
 }
 
 impl Model for Store {
@@ -52,7 +54,7 @@ impl Store {
     {
         Ok(Store {
             layers: new_layers(alloc, domains)?,
-            row: Vec::new(alloc),
+            row: SmallVec::new(alloc),
         })
     }
 
@@ -122,7 +124,7 @@ impl Store {
         ensures err { OnErr result (self.new ≡ self.old) }
     {
         write_nodes(&mut self.row, children)?;
-        let node = intern_at(&mut self.layers, layer as usize, self.row.as_slice())?;
+        let node = intern_at(&mut self.layers, layer as usize, &self.row)?;
         Ok(Id { layer, node })
     }
 

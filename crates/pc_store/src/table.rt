@@ -7,13 +7,17 @@ ghost use Rattle.pc_store.specs.Rows.{with_row};
 
 use indexmap::IndexSet;
 use pc_base::NoMemory;
+use smallvec::SmallVec;
 use std::alloc::Global;
 use std::marker::Model;
+
+/// A row of numbers. A short one lies in the value itself.
+pub(crate) type Row = SmallVec<u32, 4>;
 
 /// Rows of numbers in order, none twice. The place of a row is found by its hash.
 #[derive(Debug, Drop)]
 pub(crate) struct Table {
-    rows: IndexSet<Vec<u32>>,
+    rows: IndexSet<Row>,
 }
 
 impl Model for Table {
@@ -51,9 +55,9 @@ impl Table {
 
     /// The place of a row, which goes to the end if it isn't there. A row that is there takes no memory. Want of memory
     /// leaves the rows as they were; it is also the answer where 2^32 rows are there.
-    pub(crate) fn intern(&mut self, row: &[u32]) -> Result<u32, NoMemory>
-        ensures stands { IfOk result (λ place. slice_get self.new place ≡ Some row.now) }
-        ensures rows { IfOk result (λ _. self.new ≡ with_row self.old row.now) }
+    pub(crate) fn intern(&mut self, row: &Row) -> Result<u32, NoMemory>
+        ensures stands { IfOk result (λ place. slice_get self.new place ≡ Some row.now.items) }
+        ensures rows { IfOk result (λ _. self.new ≡ with_row self.old row.now.items) }
         ensures err { OnErr result (self.new ≡ self.old) }
     {
         match self.find(row) {
@@ -67,21 +71,22 @@ impl Table {
     }
 
     /// The place of a row, if it is there.
-    fn find(&self, row: &[u32]) -> Option<usize>
-        ensures place { IfSome result (λ place. slice_get self.now place ≡ Some row.now) }
-        ensures there { is_some result ≡ list_any (pointwise nat_eq row.now) self.now }
+    fn find(&self, row: &Row) -> Option<usize>
+        ensures place { IfSome result (λ place. slice_get self.now place ≡ Some row.now.items) }
+        ensures there { is_some result ≡ list_any (pointwise nat_eq row.now.items) self.now }
     {
         self.rows.get_index_of(row)
     }
 
     /// Puts a row that isn't there at the end. Want of memory leaves the rows as they were.
-    fn push(&mut self, row: &[u32]) -> Result<(), NoMemory>
-        requires { list_any (pointwise nat_eq row.now) self.old ≡ false }
-        ensures ok { OnOk result (self.new ≡ self.old ++ row.now ∷ []) }
+    fn push(&mut self, row: &Row) -> Result<(), NoMemory>
+        requires { list_any (pointwise nat_eq row.now.items) self.old ≡ false }
+        ensures ok { OnOk result (self.new ≡ self.old ++ row.now.items ∷ []) }
         ensures err { OnErr result (self.new ≡ self.old) }
     {
         let alloc = *self.rows.allocator();
-        self.rows.insert(Vec::from_slice(alloc, row)?)?;
+        self.rows
+            .insert(SmallVec::from_slice(alloc, row.as_slice())?)?;
         Ok(())
     }
 }

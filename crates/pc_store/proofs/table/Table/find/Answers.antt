@@ -6,8 +6,8 @@ use Rattle.pc_store.proofs.table.Table.find.Goals as goal
 
 pub returns-clause-place : goal.returns-clause-place
 returns-clause-place c =
-    rw (← c.self.view_is) (row_found (λ row. row.items) c.args.row.now c.self.inside.rows.keys c.get_index_of.result c.get_index_of.ensures.index)
+    rw (← c.self.view_is) (row_found (λ row. row.items) c.args.row.now.items c.self.inside.rows.keys c.get_index_of.result c.get_index_of.ensures.index)
 
 pub returns-clause-there : goal.returns-clause-there
 returns-clause-there c =
-    c.get_index_of.ensures.found ∙ list_any-rows (λ row. row.items) c.args.row.now c.self.inside.rows.keys ∙ ap (list_any (pointwise nat_eq c.args.row.now)) c.self.view_is
+    c.get_index_of.ensures.found ∙ list_any-rows (λ row. row.items) c.args.row.now.items c.self.inside.rows.keys ∙ ap (list_any (pointwise nat_eq c.args.row.now.items)) c.self.view_is
