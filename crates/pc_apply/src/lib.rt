@@ -6,10 +6,15 @@
 mod build;
 mod ends;
 mod level;
+mod lists;
 mod operations;
 mod plan;
 mod product;
+mod quota;
+mod quota_level;
+mod quota_product;
 mod states;
+mod step;
 mod tally;
 
 pub use operations::{and, at_most, not, or};
