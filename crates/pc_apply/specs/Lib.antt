@@ -1,5 +1,5 @@
 pub mod Counting
 pub mod Levels
 pub mod Lists
+pub mod Pairs
 pub mod Quotas
-pub mod Tallies

@@ -34,13 +34,7 @@ pub(crate) fn sets_of_quotas(
     }
     let next = next_lists(alloc, store, layer, lists)?;
     let level = plan_quotas(alloc, store, layer, lists, &next, quotas)?;
-    let below = sets_of_quotas(
-        alloc,
-        store,
-        layer + 1,
-        &next.lists,
-        level.below.as_slice(),
-    )?;
+    let below = sets_of_quotas(alloc, store, layer + 1, &next.lists, level.below.as_slice())?;
     carry_out_all(
         alloc,
         store,

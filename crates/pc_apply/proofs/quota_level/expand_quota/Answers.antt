@@ -35,12 +35,12 @@ loop-value-preserved c =
     let step : Step = get_or steps value (record { full = 0; list = 0 }) in
     let has : HasSteps store layer (get_or lists c.args.quota.list []) next c.index.result.now = steps_at store layer lists next c.args.next.now.steps.items c.args.quota.list c.index.result.now c.requires.steps c.requires.quota c.index.ensures in
     let inside : value < length steps =
-        (let width = has.count in
-        let same = ap length c.as_slice-steps.ensures.value in
-        let domain = c.domain-value-end.ensures.domain in
-        let low = c.loop-value-test.true in
-        let high = c.loop-value.auto.value-end in
-        omega arith) in
+    (let width = has.count in
+    let same = ap length c.as_slice-steps.ensures.value in
+    let domain = c.domain-value-end.ensures.domain in
+    let low = c.loop-value-test.true in
+    let high = c.loop-value.auto.value-end in
+    omega arith) in
     let is_step : IsStep store layer (get_or lists c.args.quota.list []) value next step = has.each value step (ap (λ (l : List Step). Rattle.std.proofs.Common.slice_get l value) (sym c.as_slice-steps.ensures.value) ∙ slice_get-get_or steps value (record { full = 0; list = 0 }) inside) in
     subst (Expanded store layer question next_question (Some c.args.quota) (value + 1) c.args.below.now.keys c.place.new.states.keys c.args.targets.now.items) (sym {A = List ℕ} c.in_ok-push.ensures.items)
     (expanded_more (option_eq same_quota) store layer question next_question (Some c.args.quota) value c.args.below.now.keys c.loop-value.below.keys c.args.targets.now.items c.loop-value.targets.items c.after-left.result c.in_ok-place.field-0 c.place.new.states.keys
