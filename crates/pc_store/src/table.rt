@@ -12,7 +12,10 @@ use std::alloc::Global;
 use std::marker::Model;
 
 /// A row of numbers. A short one lies in the value itself.
-pub(crate) type Row = SmallVec<u32, 4>;
+pub(crate) type Row = SmallVec<u32, SHORT>;
+
+/// The most numbers of a row that takes no memory of its own.
+const SHORT: usize = 4;
 
 /// Rows of numbers in order, none twice. The place of a row is found by its hash.
 #[derive(Debug, Drop)]
@@ -60,13 +63,12 @@ impl Table {
         ensures rows { IfOk result (λ _. self.new ≡ with_row self.old row.now.items) }
         ensures err { OnErr result (self.new ≡ self.old) }
     {
+        if row.len() <= SHORT {
+            return self.insert(row);
+        }
         match self.find(row) {
             Some(place) => number(place),
-            None => {
-                let place = number(self.len())?;
-                self.push(row)?;
-                Ok(place)
-            }
+            None => self.insert(row),
         }
     }
 
@@ -78,16 +80,17 @@ impl Table {
         self.rows.get_index_of(row)
     }
 
-    /// Puts a row that isn't there at the end. Want of memory leaves the rows as they were.
-    fn push(&mut self, row: &Row) -> Result<(), NoMemory>
-        requires { list_any (pointwise nat_eq row.now.items) self.old ≡ false }
-        ensures ok { OnOk result (self.new ≡ self.old ++ row.now.items ∷ []) }
+    /// The same for a row that isn't there, or that takes no memory of its own.
+    fn insert(&mut self, row: &Row) -> Result<u32, NoMemory>
+        ensures stands { IfOk result (λ place. slice_get self.new place ≡ Some row.now.items) }
+        ensures rows { IfOk result (λ _. self.new ≡ with_row self.old row.now.items) }
         ensures err { OnErr result (self.new ≡ self.old) }
     {
+        number(self.len())?;
         let alloc = *self.rows.allocator();
-        self.rows
-            .insert(SmallVec::from_slice(alloc, row.as_slice())?)?;
-        Ok(())
+        let copy = SmallVec::from_slice(alloc, row.as_slice())?;
+        let (place, _) = self.rows.insert_full(copy)?;
+        Ok(place as u32)
     }
 }
 

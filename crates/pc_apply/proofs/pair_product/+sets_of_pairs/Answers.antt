@@ -22,13 +22,13 @@ sets_of_pairs-requires t c =
 pub carry_out_all-requires-clause-below : goal.carry_out_all-requires-clause-below
 carry_out_all-requires-clause-below t c =
     subst (All (IsIdAt c.sets_of_pairs.new.store (c.args.layer + 1))) (sym c.as_slice-4.ensures.value)
-    (answers_ids c.args.store.now c.sets_of_pairs.new.store (c.args.layer + 1) (pairs_at c.args.store.now (c.args.layer + 1) c.args.operation) c.as_slice.result.now c.in_ok-below.below.items c.in_ok-below.ensures.ids)
+    (answers_ids c.args.store.now c.sets_of_pairs.new.store (c.args.layer + 1) (pairs_at c.args.store.now (c.args.layer + 1) c.args.operation) c.as_slice.result.now c.in_ok-sets.sets.items c.in_ok-sets.ensures.ids)
 
 pub carry_out_all-requires-clause-plans : goal.carry_out_all-requires-clause-plans
 carry_out_all-requires-clause-plans t c =
     rw (c.as_slice-2.ensures.value, c.as_slice-3.ensures.value, c.as_slice-4.ensures.value) (
-    plans_in_range c.args.store.now c.args.layer (pairs_at c.args.store.now c.args.layer c.args.operation) (pairs_at c.args.store.now (c.args.layer + 1) c.args.operation) c.args.pairs.now c.in_ok-level.level.below.keys c.in_ok-level.level.targets.items c.in_ok-level.level.plans.items (length c.in_ok-below.below.items) (slice_index (domains_of c.sets_of_pairs.new.store) c.args.layer)
-    c.in_ok-level.ensures (c.in_ok-below.ensures.ids.count ∙ ap length c.as_slice.ensures.keys) (ap (λ d. slice_index d c.args.layer) c.in_ok-below.ensures.keeps.domains)
+    plans_in_range c.args.store.now c.args.layer (pairs_at c.args.store.now c.args.layer c.args.operation) (pairs_at c.args.store.now (c.args.layer + 1) c.args.operation) c.args.pairs.now c.in_ok-level.level.below.keys c.in_ok-level.level.targets.items c.in_ok-level.level.plans.items (length c.in_ok-sets.sets.items) (slice_index (domains_of c.sets_of_pairs.new.store) c.args.layer)
+    c.in_ok-level.ensures (c.in_ok-sets.ensures.ids.count ∙ ap length c.as_slice.ensures.keys) (ap (λ d. slice_index d c.args.layer) c.in_ok-sets.ensures.keeps.domains)
     )
 
 pub returns-clause-ids : goal.returns-clause-ids
@@ -44,9 +44,9 @@ returns-clause-ids t c =
     let question = pairs_at first c.args.layer c.args.operation in
     let next_question = pairs_at first (c.args.layer + 1) c.args.operation in
     let values = slice_index (domains_of mid) c.args.layer in
-    let below = c.in_ok-below.below.items in
-    let answers : EachAnswers first mid (c.args.layer + 1) next_question level.below.keys below = subst (λ pairs. EachAnswers first mid (c.args.layer + 1) next_question pairs below) c.as_slice.ensures.keys c.in_ok-below.ensures.ids in
+    let below = c.in_ok-sets.sets.items in
+    let answers : EachAnswers first mid (c.args.layer + 1) next_question level.below.keys below = subst (λ pairs. EachAnswers first mid (c.args.layer + 1) next_question pairs below) c.as_slice.ensures.keys c.in_ok-sets.ensures.ids in
     ok_then c.carry_out_all.result (λ ids. EachCarriedOut mid now c.args.layer level.targets.items values below level.plans.items ids.items) (λ ids. EachAnswers first now c.args.layer question c.args.pairs.now ids.items)
-    (λ ids out. all_answer first mid now c.args.layer question next_question c.args.pairs.now level.below.keys level.targets.items level.plans.items values below ids.items inner (ap (λ d. slice_index d c.args.layer) c.in_ok-below.ensures.keeps.domains)
-    c.in_ok-level.ensures answers c.in_ok-below.ensures.keeps c.carry_out_all.ensures.keeps out)
+    (λ ids out. all_answer first mid now c.args.layer question next_question c.args.pairs.now level.below.keys level.targets.items level.plans.items values below ids.items inner (ap (λ d. slice_index d c.args.layer) c.in_ok-sets.ensures.keeps.domains)
+    c.in_ok-level.ensures answers c.in_ok-sets.ensures.keeps c.carry_out_all.ensures.keeps out)
     (rw (← c.as_slice-2.ensures.value, ← c.as_slice-3.ensures.value, ← c.as_slice-4.ensures.value) c.carry_out_all.ensures.ids)
