@@ -36,6 +36,10 @@ same_id-Decides a b = (
     itself : (n : ℕ) → nat_eq n n ≡ true
     itself n = grind (arith, nat_tests)
 
+-- lists that a test finds equal
+pub lists_equal : (xs ys : List Id) (r : Bool) → r ≡ pointwise same_id xs ys → r ≡ true → xs ≡ ys
+lists_equal xs ys r e = (slice_eq-Decides same_id-Decides xs ys r e).0
+
 -- an equal list that stands at a place
 pub list_stands : {K : Type 0} (items : K → List Id) (ks : List K) (place : ℕ) (k : K) (list : List Id) → slice_get ks place ≡ Some k → pointwise same_id list (items k) ≡ true → slice_get (map items ks) place ≡ Some list
 list_stands items ks place k list at same =

@@ -1,6 +1,6 @@
 //! The different lists of sets of a layer.
 
-ghost use Rattle.std.specs.Prelude.{◌≡◌, ◌<◌, [], Some, length, slice_get, slice_index_or, IfOk, OnOk};
+ghost use Rattle.std.specs.Prelude.{◌≡◌, ◌<◌, [], Some, length, slice_get, slice_index_or, IfOk, IfSome, OnOk};
 ghost use Rattle.pc_apply.specs.Lists.{IsWith};
 
 use crate::states::number;
@@ -55,7 +55,22 @@ impl Lists {
         ensures stands { IfOk result (λ place. slice_get self.new place ≡ Some list.items) }
         ensures lists { OnOk result (IsWith self.old list.items self.new) }
     {
+        if let Some(place) = self.place_if_last(list.as_slice()) {
+            return number(place);
+        }
         let (place, _) = self.lists.insert_full(list)?;
         number(place)
+    }
+
+    /// The place of the last list, if it is this one. Most values of a variable lead to the same list.
+    fn place_if_last(&self, list: &[Id]) -> Option<usize>
+        ensures { IfSome result (λ place. slice_get self.now place ≡ Some list.now) }
+    {
+        let place = self.len().checked_sub(1)?;
+        if self.list(place) == list {
+            Some(place)
+        } else {
+            None
+        }
     }
 }
