@@ -156,28 +156,3 @@ ok_then (Err e) P Q f h = tt
 -- the answer to one state of the first layer
 pub one_answer : {State : Type 0} (first now : Store) (question : Question State) (state : State) (ids : List Id) (id : Id) → EachAnswers first now 0 question (state ∷ []) ids → id ≡ get_or ids 0 id → Answers first now 0 question state id
 one_answer first now question state ids id h read = h.each 0 state id refl (read_stands ids 0 id (omega (arith, h.count)) read)
-
--- a word in more than one of two sets is in both
-pub in_both : (over a b : Bool) → (a ≡ true → over ≡ true) → (over && not (nat_le ((0 + cond a 1 0) + cond b 1 0) 1)) ≡ (a && b)
-in_both true true true f = refl
-in_both true true false f = refl
-in_both true false true f = refl
-in_both true false false f = refl
-in_both false true b f = absurd (true≢false (sym (f refl)))
-in_both false false b f = refl
-
--- a word in more than none of two sets is in either
-pub in_either : (over a b : Bool) → (a ≡ true → over ≡ true) → (b ≡ true → over ≡ true) → (over && not (nat_le ((0 + cond a 1 0) + cond b 1 0) 0)) ≡ (a || b)
-in_either true true true f g = refl
-in_either true true false f g = refl
-in_either true false true f g = refl
-in_either true false false f g = refl
-in_either false true b f g = absurd (true≢false (sym (f refl)))
-in_either false false true f g = absurd (true≢false (sym (g refl)))
-in_either false false false f g = refl
-
--- a word in none of one set isn't in it
-pub in_none : (over a : Bool) → (over && nat_le (0 + cond a 1 0) 0) ≡ (over && not a)
-in_none true true = refl
-in_none true false = refl
-in_none false a = refl

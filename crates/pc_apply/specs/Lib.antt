@@ -1,4 +1,5 @@
 pub mod Counting
 pub mod Levels
+pub mod Lists
 pub mod Pairs
-pub mod Tallies
+pub mod Quotas

@@ -5,15 +5,14 @@ ghost use Rattle.pc_diagram.specs.Words.{is_word};
 ghost use Rattle.pc_store.specs.Sets.{domains_of, IsIdAt, has, Keeps};
 ghost use Rattle.pc_apply.specs.Counting.{is_within};
 ghost use Rattle.pc_apply.specs.Pairs.{holds};
-ghost use Rattle.pc_apply.specs.Tallies.{asked};
 
+use crate::lists::Lists;
 use crate::pair::{Operation, Pair};
 use crate::pair_product::sets_of_pairs;
-use crate::product::sets_of;
-use crate::tally::Tally;
+use crate::quota::Quota;
+use crate::quota_product::sets_of_quotas;
 use pc_base::NoMemory;
 use pc_store::{Id, Store};
-use smallvec::SmallVec;
 
 /// The words in both sets of the first layer. Want of memory leaves the store as it was but for more nodes.
 pub fn and(store: &mut Store, a: Id, b: Id) -> Result<Id, NoMemory>
@@ -58,7 +57,12 @@ pub fn at_most(store: &mut Store, most: u32, members: &[Id]) -> Result<Id, NoMem
     ensures set { IfOk result (λ id. (word : List ℕ) → has store.new id word ≡ (is_word (domains_of store.old) word && is_within store.old most members.now word)) }
     ensures keeps { Keeps store.old store.new }
 {
-    count(store, most, members, true)
+    let alloc = store.allocator();
+    let mut lists = Lists::new(alloc);
+    let list = lists.place(Vec::from_slice(alloc, members)?)?;
+    let quota = Quota { most, list };
+    let ids = sets_of_quotas(alloc, store, 0, &lists, &[Some(quota)])?;
+    Ok(ids[0])
 }
 
 /// The words that an operation asks for of two sets.
@@ -76,21 +80,5 @@ fn combine(store: &mut Store, operation: Operation, left: Id, right: Id) -> Resu
         right: right.node(),
     };
     let ids = sets_of_pairs(alloc, store, 0, operation, &[pair])?;
-    Ok(ids[0])
-}
-
-/// The words over the domains that are in at most so many of the sets, or those that are in more.
-fn count(store: &mut Store, most: u32, sets: &[Id], within: bool) -> Result<Id, NoMemory>
-    requires { All (IsIdAt store.old 0) sets.now }
-    ensures is_id { IfOk result (IsIdAt store.new 0) }
-    ensures set { IfOk result (λ id. (word : List ℕ) → has store.new id word ≡ (is_word (domains_of store.old) word && asked within (is_within store.old most sets.now word))) }
-    ensures keeps { Keeps store.old store.new }
-{
-    let alloc = store.allocator();
-    let tally = Tally {
-        most,
-        sets: SmallVec::from_slice(alloc, sets)?,
-    };
-    let ids = sets_of(alloc, store, 0, within, &[tally])?;
     Ok(ids[0])
 }
