@@ -35,8 +35,8 @@ pub(crate) fn plan_pairs(
     ensures { IfOk result (λ level. EachFits store.now layer (pairs_at store.now layer operation) (pairs_at store.now (layer + 1) operation) pairs.now level.below.keys level.targets.items level.plans.items) }
 {
     let mut plans = Vec::with_capacity(alloc, pairs.len())?;
-    let mut targets = Vec::with_capacity(alloc, pairs.len())?;
-    let mut below = IndexSet::with_capacity(alloc, pairs.len())?;
+    let mut targets = Vec::new(alloc);
+    let mut below = IndexSet::new(alloc);
     for pair in pairs {
         plans.push(plan_pair(store, layer, operation, *pair, &mut targets, &mut below)?)?;
     }

@@ -7,7 +7,7 @@ ghost use Rattle.pc_apply.specs.Pairs.{HasBoth, pairs_at};
 
 use crate::build::carry_out_all;
 use crate::pair::{Operation, Pair};
-use crate::pair_level::{PairLevel, plan_pairs};
+use crate::pair_level::plan_pairs;
 use pc_base::NoMemory;
 use pc_store::{Id, Store};
 use std::alloc::Global;
@@ -29,20 +29,13 @@ pub(crate) fn sets_of_pairs(
         return ends_of_pairs(alloc, store, operation, pairs);
     }
     let level = plan_pairs(alloc, store, layer, operation, pairs)?;
-    let PairLevel {
-        plans,
-        targets,
-        below,
-    } = level;
-    let sets = sets_of_pairs(alloc, store, layer + 1, operation, below.as_slice())?;
-    // Its memory serves the nodes.
-    drop(below);
+    let sets = sets_of_pairs(alloc, store, layer + 1, operation, level.below.as_slice())?;
     carry_out_all(
         alloc,
         store,
         layer,
-        plans.as_slice(),
-        targets.as_slice(),
+        level.plans.as_slice(),
+        level.targets.as_slice(),
         sets.as_slice(),
     )
 }
