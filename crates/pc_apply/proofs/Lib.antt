@@ -1,4 +1,6 @@
 pub mod BuildLemmas
 pub mod LevelLemmas
+pub mod ListLemmas
+pub mod PairLemmas
 pub mod ProductLemmas
-pub mod TallyLemmas
+pub mod QuotaLemmas

@@ -1,5 +1,5 @@
 -- The sets of a layer from those of the next.
-use Rattle.std.proofs.Common.{◌≡◌, ℕ, zero, suc, ◌+◌, ◌<◌, ◌≤◌, nat_lt, nat_le, Bool, true, false, not, cond, ◌&&◌, ◌||◌, List, [], ◌∷◌, ◌++◌, take, drop, length, get_or, slice_get, slice_index, Some, None, Result, Ok, Err, IfOk, All, refl, sym, ap, ◌∙◌, subst, arith, inl, inr, ◌⊎◌, true≢false}
+use Rattle.std.proofs.Common.{◌≡◌, ℕ, zero, suc, ◌+◌, ◌<◌, ◌≤◌, nat_lt, Bool, true, false, ◌&&◌, List, [], ◌∷◌, ◌++◌, take, drop, length, get_or, slice_get, slice_index, Some, None, Result, Ok, Err, IfOk, All, refl, sym, ap, ◌∙◌, subst, arith, inl, inr, ◌⊎◌}
 use Rattle.std.proofs.lemmas.Bool.Decides.{nat_tests}
 use Rattle.std.proofs.lemmas.List.{take_more, length_push, length-take-le, drop_more, length-drop}
 use Rattle.std.proofs.lemmas.Option.{slice_get-get_or, slice_get_cases}
@@ -8,41 +8,39 @@ use Rattle.pc_store.specs.declared.id.Id.{Id}
 use Rattle.pc_store.specs.declared.store.Store.{Store}
 use Rattle.pc_store.specs.Sets.{domains_of, IsIdAt, has, has_in, Keeps}
 use Rattle.pc_store.proofs.SetLemmas.{keeps_then}
-use Rattle.pc_apply.specs.declared.tally.Tally.{Tally}
 use Rattle.pc_apply.specs.declared.plan.Plan.{Plan}
 use Rattle.pc_apply.specs.declared.plan.Plan.TheVariants.{Known, Node}
-use Rattle.pc_apply.specs.Tallies.{is_over, counts, asked, wanted, Answers}
-use Rattle.pc_apply.specs.Levels.{part, LeadsFrom, Fits, EachFits, EachAnswers, InRange, IsOver, CarriedOut, EachCarriedOut}
+use Rattle.pc_apply.specs.Levels.{Question, is_over, Answers, part, LeadsFrom, Fits, EachFits, EachAnswers, InRange, IsOver, CarriedOut, EachCarriedOut}
 use Rattle.pc_apply.proofs.LevelLemmas.{last_or_before, past, read_stands}
 
-pub answers_none : (first now : Store) (layer : ℕ) (within : Bool) → EachAnswers first now layer within [] []
-answers_none first now layer within = record { count = refl; each = λ place tally id at. absurd cc }
+pub answers_none : {State : Type 0} (first now : Store) (layer : ℕ) (question : Question State) → EachAnswers first now layer question [] []
+answers_none first now layer question = record { count = refl; each = λ place state id at. absurd cc }
 
 -- one answer more
-pub answers_more : (first now : Store) (layer : ℕ) (within : Bool) (tallies : List Tally) (i : ℕ) (tally : Tally) (ids : List Id) (id : Id) → i < length tallies → tally ≡ get_or tallies i tally →
-    EachAnswers first now layer within (take i tallies) ids → Answers first now layer within tally id → EachAnswers first now layer within (take (i + 1) tallies) (ids ++ id ∷ [])
-answers_more first now layer within tallies i tally ids id lt read h one = record {
-  count = length_push ids id ∙ ap (λ n. n + 1) h.count ∙ sym (ap length more ∙ length_push (take i tallies) tally);
+pub answers_more : {State : Type 0} (first now : Store) (layer : ℕ) (question : Question State) (states : List State) (i : ℕ) (state : State) (ids : List Id) (id : Id) → i < length states → state ≡ get_or states i state →
+    EachAnswers first now layer question (take i states) ids → Answers first now layer question state id → EachAnswers first now layer question (take (i + 1) states) (ids ++ id ∷ [])
+answers_more first now layer question states i state ids id lt read h one = record {
+  count = length_push ids id ∙ ap (λ n. n + 1) h.count ∙ sym (ap length more ∙ length_push (take i states) state);
   each = λ place t x at at_id.
       elim (last_or_before ids id x place at_id) [
         | inl before ↦
-            elim (last_or_before (take i tallies) tally t place (subst (λ l. slice_get l place ≡ Some t) more at)) [
+            elim (last_or_before (take i states) state t place (subst (λ l. slice_get l place ≡ Some t) more at)) [
               | inl earlier ↦ h.each place t x earlier before
               | inr last ↦ absurd (let l = past ids place x before in let c = h.count in let e = last.0 in omega arith)
             ]
         | inr last ↦
-            elim (last_or_before (take i tallies) tally t place (subst (λ l. slice_get l place ≡ Some t) more at)) [
-              | inl earlier ↦ absurd (let l = past (take i tallies) place t earlier in let c = h.count in let e = last.0 in omega arith)
-              | inr same ↦ subst (λ y. Answers first now layer within t y) (sym last.1) (subst (λ u. Answers first now layer within u id) (sym same.1) one)
+            elim (last_or_before (take i states) state t place (subst (λ l. slice_get l place ≡ Some t) more at)) [
+              | inl earlier ↦ absurd (let l = past (take i states) place t earlier in let c = h.count in let e = last.0 in omega arith)
+              | inr same ↦ subst (λ y. Answers first now layer question t y) (sym last.1) (subst (λ u. Answers first now layer question u id) (sym same.1) one)
             ]
       ];
 }
   where
-    more : take (i + 1) tallies ≡ take i tallies ++ tally ∷ []
-    more = take_more tallies i tally lt ∙ ap (λ t. take i tallies ++ t ∷ []) (sym read)
+    more : take (i + 1) states ≡ take i states ++ state ∷ []
+    more = take_more states i state lt ∙ ap (λ t. take i states ++ t ∷ []) (sym read)
 
-pub answers_later : (first mid now : Store) (layer : ℕ) (within : Bool) (tally : Tally) (id : Id) → Keeps mid now → Answers first mid layer within tally id → Answers first now layer within tally id
-answers_later first mid now layer within tally id keeps h = record {
+pub answers_later : {State : Type 0} (first mid now : Store) (layer : ℕ) (question : Question State) (state : State) (id : Id) → Keeps mid now → Answers first mid layer question state id → Answers first now layer question state id
+answers_later first mid now layer question state id keeps h = record {
   is_id = (keeps.ids id h.is_id.0, h.is_id.1);
   words = λ word. keeps.sets id h.is_id.0 word ∙ h.words word;
 }
@@ -55,15 +53,15 @@ other_stands (z ∷ xs) (y ∷ ys) zero x at same = (y, refl)
 other_stands (z ∷ xs) (y ∷ ys) (suc place) x at same = other_stands xs ys place x at (omega arith)
 
 -- the sets below are of the next layer
-pub answers_ids : (first now : Store) (layer : ℕ) (within : Bool) (tallies : List Tally) (ids : List Id) → EachAnswers first now layer within tallies ids → All (IsIdAt now layer) ids
-answers_ids first now layer within tallies ids h k d lt =
+pub answers_ids : {State : Type 0} (first now : Store) (layer : ℕ) (question : Question State) (states : List State) (ids : List Id) → EachAnswers first now layer question states ids → All (IsIdAt now layer) ids
+answers_ids first now layer question states ids h k d lt =
     let there : slice_get ids k ≡ Some (get_or ids k d) = slice_get-get_or ids k d lt in
-    let tally = other_stands ids tallies k (get_or ids k d) there h.count in
-    (h.each k tally.0 (get_or ids k d) tally.1 there).is_id
+    let state = other_stands ids states k (get_or ids k d) there h.count in
+    (h.each k state.0 (get_or ids k d) state.1 there).is_id
 
-range_of : (first : Store) (layer : ℕ) (within : Bool) (tally : Tally) (below : List Tally) (targets : List ℕ) (ids count : ℕ) → ids ≡ length below → count ≡ slice_index (domains_of first) layer → (plan : Plan) → Fits first layer within tally below targets plan → InRange targets count ids plan
-range_of first layer within tally below targets ids count as_many width (Known id) fits = tt
-range_of first layer within tally below targets ids count as_many width (Node from) fits = (
+range_of : {State : Type 0} (first : Store) (layer : ℕ) (question next_question : Question State) (state : State) (below : List State) (targets : List ℕ) (ids count : ℕ) → ids ≡ length below → count ≡ slice_index (domains_of first) layer → (plan : Plan) → Fits first layer question next_question state below targets plan → InRange targets count ids plan
+range_of first layer question next_question state below targets ids count as_many width (Known id) fits = tt
+range_of first layer question next_question state below targets ids count as_many width (Node from) fits = (
   (let i = fits.inside in omega arith),
   λ k d lt.
       let there : slice_get (part targets from (slice_index (domains_of first) layer)) k ≡ Some (get_or (part targets from count) k d) =
@@ -74,11 +72,11 @@ range_of first layer within tally below targets ids count as_many width (Node fr
 )
 
 -- plans name places below
-pub plans_in_range : (first : Store) (layer : ℕ) (within : Bool) (tallies below : List Tally) (targets : List ℕ) (plans : List Plan) (ids count : ℕ) → EachFits first layer within tallies below targets plans → ids ≡ length below → count ≡ slice_index (domains_of first) layer →
+pub plans_in_range : {State : Type 0} (first : Store) (layer : ℕ) (question next_question : Question State) (states below : List State) (targets : List ℕ) (plans : List Plan) (ids count : ℕ) → EachFits first layer question next_question states below targets plans → ids ≡ length below → count ≡ slice_index (domains_of first) layer →
     (place : ℕ) (plan : Plan) → slice_get plans place ≡ Some plan → InRange targets count ids plan
-plans_in_range first layer within tallies below targets plans ids count h as_many width place plan at =
-    let tally = other_stands plans tallies place plan at h.count in
-    range_of first layer within tally.0 below targets ids count as_many width plan (h.each place tally.0 plan tally.1 at)
+plans_in_range first layer question next_question states below targets plans ids count h as_many width place plan at =
+    let state = other_stands plans states place plan at h.count in
+    range_of first layer question next_question state.0 below targets ids count as_many width plan (h.each place state.0 plan state.1 at)
 
 and_where : (b x y : Bool) → (b ≡ true → x ≡ y) → (b && x) ≡ (b && y)
 and_where true x y f = f refl
@@ -91,19 +89,19 @@ over_inner first layer value word lt = ap (λ d. is_word d (value ∷ word)) (dr
 not_over : (first : Store) (layer : ℕ) → layer < length (domains_of first) → is_over first layer [] ≡ false
 not_over first layer lt = ap (λ d. is_word d []) (drop_more (domains_of first) layer 0 lt)
 
--- the words of a node over the answers to what is left of a tally
-node_words : (first mid now : Store) (layer : ℕ) (within : Bool) (tally : Tally) (below : List Tally) (targets : List ℕ) (from count : ℕ) (ids : List Id) (id : Id) → layer < length (domains_of first) → count ≡ slice_index (domains_of first) layer →
-    LeadsFrom first layer tally below targets from count → EachAnswers first mid (layer + 1) within below ids → IsOver mid now layer ids (part targets from count) id → (word : List ℕ) → has now id word ≡ wanted first layer within tally word
-node_words first mid now layer within tally below targets from count ids id lt width leads_from answers over [] =
-    over.words [] ∙ sym (ap (λ b. b && asked within (counts first tally [])) (not_over first layer lt))
-node_words first mid now layer within tally below targets from count ids id lt width leads_from answers over (value ∷ word) =
-    over.words (value ∷ word) ∙ by (slice_get_cases (part targets from count) value) ∙ sym (ap (λ b. b && asked within (counts first tally (value ∷ word))) (over_inner first layer value word lt))
+-- the words of a node over the answers to what is left of a state
+node_words : {State : Type 0} (first mid now : Store) (layer : ℕ) (question next_question : Question State) (state : State) (below : List State) (targets : List ℕ) (from count : ℕ) (ids : List Id) (id : Id) → layer < length (domains_of first) → count ≡ slice_index (domains_of first) layer →
+    LeadsFrom first layer question next_question state below targets from count → EachAnswers first mid (layer + 1) next_question below ids → IsOver mid now layer ids (part targets from count) id → (word : List ℕ) → has now id word ≡ (is_over first layer word && question.asks state word)
+node_words first mid now layer question next_question state below targets from count ids id lt width leads_from answers over [] =
+    over.words [] ∙ sym (ap (λ b. b && question.asks state []) (not_over first layer lt))
+node_words first mid now layer question next_question state below targets from count ids id lt width leads_from answers over (value ∷ word) =
+    over.words (value ∷ word) ∙ by (slice_get_cases (part targets from count) value) ∙ sym (ap (λ b. b && question.asks state (value ∷ word)) (over_inner first layer value word lt))
   where
     part_width : length (part targets from count) ≡ count
     part_width = length-take-le count (drop from targets) (let i = leads_from.inside in omega (arith, length-drop from targets))
 
     by : (slice_get (part targets from count) value ≡ slice_get (part targets from count) value) × (((place : ℕ) × (value < length (part targets from count)) × (slice_get (part targets from count) value ≡ Some place) × (get_or (part targets from count) value place ≡ place)) ⊎ ((length (part targets from count) ≤ value) × (slice_get (part targets from count) value ≡ None))) →
-        has_in mid (slice_get over.children value) word ≡ ((nat_lt value (slice_index (domains_of first) layer) && is_over first (layer + 1) word) && asked within (counts first tally (value ∷ word)))
+        has_in mid (slice_get over.children value) word ≡ ((nat_lt value (slice_index (domains_of first) layer) && is_over first (layer + 1) word) && question.asks state (value ∷ word))
     by cases = elim cases.1 [
       | inl found ↦
           let next = leads_from.each value found.0 found.2 in
@@ -112,12 +110,12 @@ node_words first mid now layer within tally below targets from count ids id lt w
           let answer = answers.each found.0 next.0 child.0 next.1 child.1 in
           let inside : nat_lt value (slice_index (domains_of first) layer) ≡ true = below_count value (slice_index (domains_of first) layer) (let w = part_width in let f = found.1 in omega arith) in
           ap (λ o. has_in mid o word) picked ∙ answer.words word
-          ∙ and_where (is_over first (layer + 1) word) (asked within (counts first next.0 word)) (asked within (counts first tally (value ∷ word))) (λ o. ap (asked within) (next.2.same word o))
-          ∙ ap (λ b. (b && is_over first (layer + 1) word) && asked within (counts first tally (value ∷ word))) (sym inside)
+          ∙ and_where (is_over first (layer + 1) word) (next_question.asks next.0 word) (question.asks state (value ∷ word)) (λ o. next.2.same word o)
+          ∙ ap (λ b. (b && is_over first (layer + 1) word) && question.asks state (value ∷ word)) (sym inside)
       | inr gone ↦
           let none : slice_get over.children value ≡ None = nothing_past over.children value (let c = over.picked.count in let g = gone.0 in omega arith) in
           let outside : nat_lt value (slice_index (domains_of first) layer) ≡ false = past_count value (slice_index (domains_of first) layer) (let w = part_width in let g = gone.0 in omega arith) in
-          ap (λ o. has_in mid o word) none ∙ ap (λ b. (b && is_over first (layer + 1) word) && asked within (counts first tally (value ∷ word))) (sym outside)
+          ap (λ o. has_in mid o word) none ∙ ap (λ b. (b && is_over first (layer + 1) word) && question.asks state (value ∷ word)) (sym outside)
     ]
       where
         below_count : (v n : ℕ) → v < n → nat_lt v n ≡ true
@@ -131,23 +129,23 @@ node_words first mid now layer within tally below targets from count ids id lt w
         nothing_past (x ∷ xs) zero le = absurd (omega arith)
         nothing_past (x ∷ xs) (suc k) le = nothing_past xs k (omega arith)
 
--- a plan that was carried out answers its tally
-plan_answers : (first mid now : Store) (layer : ℕ) (within : Bool) (tally : Tally) (below : List Tally) (targets : List ℕ) (count : ℕ) (ids : List Id) (id : Id) → layer < length (domains_of first) → count ≡ slice_index (domains_of first) layer → EachAnswers first mid (layer + 1) within below ids → Keeps first now →
-    (plan : Plan) → Fits first layer within tally below targets plan → CarriedOut mid now layer targets count ids plan id → Answers first now layer within tally id
-plan_answers first mid now layer within tally below targets count ids id lt width answers keeps (Known known) fits out = subst (Answers first now layer within tally) (sym out) (answers_later first first now layer within tally known keeps fits)
-plan_answers first mid now layer within tally below targets count ids id lt width answers keeps (Node from) fits out = record {
+-- a plan that was carried out answers its state
+plan_answers : {State : Type 0} (first mid now : Store) (layer : ℕ) (question next_question : Question State) (state : State) (below : List State) (targets : List ℕ) (count : ℕ) (ids : List Id) (id : Id) → layer < length (domains_of first) → count ≡ slice_index (domains_of first) layer → EachAnswers first mid (layer + 1) next_question below ids → Keeps first now →
+    (plan : Plan) → Fits first layer question next_question state below targets plan → CarriedOut mid now layer targets count ids plan id → Answers first now layer question state id
+plan_answers first mid now layer question next_question state below targets count ids id lt width answers keeps (Known known) fits out = subst (Answers first now layer question state) (sym out) (answers_later first first now layer question state known keeps fits)
+plan_answers first mid now layer question next_question state below targets count ids id lt width answers keeps (Node from) fits out = record {
   is_id = out.is_id;
-  words = node_words first mid now layer within tally below targets from count ids id lt width (subst (LeadsFrom first layer tally below targets from) (sym width) fits) answers out;
+  words = node_words first mid now layer question next_question state below targets from count ids id lt width (subst (LeadsFrom first layer question next_question state below targets from) (sym width) fits) answers out;
 }
 
--- all plans that were carried out answer the tallies
-pub all_answer : (first mid now : Store) (layer : ℕ) (within : Bool) (tallies below : List Tally) (targets : List ℕ) (plans : List Plan) (count : ℕ) (below_ids ids : List Id) → layer < length (domains_of first) → count ≡ slice_index (domains_of first) layer →
-    EachFits first layer within tallies below targets plans → EachAnswers first mid (layer + 1) within below below_ids → Keeps first mid → Keeps mid now → EachCarriedOut mid now layer targets count below_ids plans ids → EachAnswers first now layer within tallies ids
-all_answer first mid now layer within tallies below targets plans count below_ids ids lt width fits answers before after out = record {
+-- all plans that were carried out answer the states
+pub all_answer : {State : Type 0} (first mid now : Store) (layer : ℕ) (question next_question : Question State) (states below : List State) (targets : List ℕ) (plans : List Plan) (count : ℕ) (below_ids ids : List Id) → layer < length (domains_of first) → count ≡ slice_index (domains_of first) layer →
+    EachFits first layer question next_question states below targets plans → EachAnswers first mid (layer + 1) next_question below below_ids → Keeps first mid → Keeps mid now → EachCarriedOut mid now layer targets count below_ids plans ids → EachAnswers first now layer question states ids
+all_answer first mid now layer question next_question states below targets plans count below_ids ids lt width fits answers before after out = record {
   count = out.length_is ∙ fits.count;
-  each = λ place tally id at at_id.
-      let plan = other_stands tallies plans place tally at (sym fits.count) in
-      plan_answers first mid now layer within tally below targets count below_ids id lt width answers (keeps_then first mid now before after) plan.0 (fits.each place tally plan.0 at plan.1) (out.each place plan.0 id plan.1 at_id);
+  each = λ place state id at at_id.
+      let plan = other_stands states plans place state at (sym fits.count) in
+      plan_answers first mid now layer question next_question state below targets count below_ids id lt width answers (keeps_then first mid now before after) plan.0 (fits.each place state plan.0 at plan.1) (out.each place plan.0 id plan.1 at_id);
 }
 
 -- what follows of a value where there is one
@@ -155,31 +153,6 @@ pub ok_then : {T E : Type 0} (r : Result T E) (P Q : T → Type 0) → ((x : T) 
 ok_then (Ok x) P Q f h = f x h
 ok_then (Err e) P Q f h = tt
 
--- the answer to one tally of the first layer
-pub one_answer : (first now : Store) (within : Bool) (tally : Tally) (ids : List Id) (id : Id) → EachAnswers first now 0 within (tally ∷ []) ids → id ≡ get_or ids 0 id → Answers first now 0 within tally id
-one_answer first now within tally ids id h read = h.each 0 tally id refl (read_stands ids 0 id (omega (arith, h.count)) read)
-
--- a word in more than one of two sets is in both
-pub in_both : (over a b : Bool) → (a ≡ true → over ≡ true) → (over && not (nat_le ((0 + cond a 1 0) + cond b 1 0) 1)) ≡ (a && b)
-in_both true true true f = refl
-in_both true true false f = refl
-in_both true false true f = refl
-in_both true false false f = refl
-in_both false true b f = absurd (true≢false (sym (f refl)))
-in_both false false b f = refl
-
--- a word in more than none of two sets is in either
-pub in_either : (over a b : Bool) → (a ≡ true → over ≡ true) → (b ≡ true → over ≡ true) → (over && not (nat_le ((0 + cond a 1 0) + cond b 1 0) 0)) ≡ (a || b)
-in_either true true true f g = refl
-in_either true true false f g = refl
-in_either true false true f g = refl
-in_either true false false f g = refl
-in_either false true b f g = absurd (true≢false (sym (f refl)))
-in_either false false true f g = absurd (true≢false (sym (g refl)))
-in_either false false false f g = refl
-
--- a word in none of one set isn't in it
-pub in_none : (over a : Bool) → (over && nat_le (0 + cond a 1 0) 0) ≡ (over && not a)
-in_none true true = refl
-in_none true false = refl
-in_none false a = refl
+-- the answer to one state of the first layer
+pub one_answer : {State : Type 0} (first now : Store) (question : Question State) (state : State) (ids : List Id) (id : Id) → EachAnswers first now 0 question (state ∷ []) ids → id ≡ get_or ids 0 id → Answers first now 0 question state id
+one_answer first now question state ids id h read = h.each 0 state id refl (read_stands ids 0 id (omega (arith, h.count)) read)

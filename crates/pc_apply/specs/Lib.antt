@@ -1,3 +1,5 @@
 pub mod Counting
 pub mod Levels
-pub mod Tallies
+pub mod Lists
+pub mod Pairs
+pub mod Quotas

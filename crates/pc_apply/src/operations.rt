@@ -4,13 +4,15 @@ ghost use Rattle.std.specs.Prelude.{◌≡◌, ℕ, List, ◌&&◌, ◌||◌, no
 ghost use Rattle.pc_diagram.specs.Words.{is_word};
 ghost use Rattle.pc_store.specs.Sets.{domains_of, IsIdAt, has, Keeps};
 ghost use Rattle.pc_apply.specs.Counting.{is_within};
-ghost use Rattle.pc_apply.specs.Tallies.{asked};
+ghost use Rattle.pc_apply.specs.Pairs.{holds};
 
-use crate::product::sets_of;
-use crate::tally::Tally;
+use crate::lists::Lists;
+use crate::pair::{Operation, Pair};
+use crate::pair_product::sets_of_pairs;
+use crate::quota::Quota;
+use crate::quota_product::sets_of_quotas;
 use pc_base::NoMemory;
 use pc_store::{Id, Store};
-use smallvec::SmallVec;
 
 /// The words in both sets of the first layer. Want of memory leaves the store as it was but for more nodes.
 pub fn and(store: &mut Store, a: Id, b: Id) -> Result<Id, NoMemory>
@@ -20,8 +22,7 @@ pub fn and(store: &mut Store, a: Id, b: Id) -> Result<Id, NoMemory>
     ensures set { IfOk result (λ id. (word : List ℕ) → has store.new id word ≡ (has store.old a word && has store.old b word)) }
     ensures keeps { Keeps store.old store.new }
 {
-    store.words_are_over_domains();
-    count(store, 1, &[a, b], false)
+    combine(store, Operation::And, a, b)
 }
 
 /// The words in either set of the first layer, or in both. Want of memory leaves the store as it was but for more
@@ -33,8 +34,7 @@ pub fn or(store: &mut Store, a: Id, b: Id) -> Result<Id, NoMemory>
     ensures set { IfOk result (λ id. (word : List ℕ) → has store.new id word ≡ (has store.old a word || has store.old b word)) }
     ensures keeps { Keeps store.old store.new }
 {
-    store.words_are_over_domains();
-    count(store, 0, &[a, b], false)
+    combine(store, Operation::Or, a, b)
 }
 
 /// The words over the domains that aren't in the set, which is of the first layer. Want of memory leaves the store as
@@ -45,7 +45,8 @@ pub fn not(store: &mut Store, a: Id) -> Result<Id, NoMemory>
     ensures set { IfOk result (λ id. (word : List ℕ) → has store.new id word ≡ (is_word (domains_of store.old) word && negated (has store.old a word))) }
     ensures keeps { Keeps store.old store.new }
 {
-    count(store, 0, &[a], true)
+    let all = store.full(0);
+    combine(store, Operation::Without, all, a)
 }
 
 /// The words over the domains that are in at most so many of the members, which are of the first layer. A set that
@@ -56,21 +57,28 @@ pub fn at_most(store: &mut Store, most: u32, members: &[Id]) -> Result<Id, NoMem
     ensures set { IfOk result (λ id. (word : List ℕ) → has store.new id word ≡ (is_word (domains_of store.old) word && is_within store.old most members.now word)) }
     ensures keeps { Keeps store.old store.new }
 {
-    count(store, most, members, true)
+    let alloc = store.allocator();
+    let mut lists = Lists::new(alloc);
+    let list = lists.place(Vec::from_slice(alloc, members)?)?;
+    let quota = Quota { most, list };
+    let ids = sets_of_quotas(alloc, store, 0, &lists, &[Some(quota)])?;
+    Ok(ids[0])
 }
 
-/// The words over the domains that are in at most so many of the sets, or those that are in more.
-fn count(store: &mut Store, most: u32, sets: &[Id], within: bool) -> Result<Id, NoMemory>
-    requires { All (IsIdAt store.old 0) sets.now }
+/// The words that an operation asks for of two sets.
+fn combine(store: &mut Store, operation: Operation, left: Id, right: Id) -> Result<Id, NoMemory>
+    requires left { IsIdAt store.old 0 left }
+    requires right { IsIdAt store.old 0 right }
     ensures is_id { IfOk result (IsIdAt store.new 0) }
-    ensures set { IfOk result (λ id. (word : List ℕ) → has store.new id word ≡ (is_word (domains_of store.old) word && asked within (is_within store.old most sets.now word))) }
+    ensures set { IfOk result (λ id. (word : List ℕ) → has store.new id word ≡ holds operation (has store.old left word) (has store.old right word)) }
     ensures keeps { Keeps store.old store.new }
 {
+    store.words_are_over_domains();
     let alloc = store.allocator();
-    let tally = Tally {
-        most,
-        sets: SmallVec::from_slice(alloc, sets)?,
+    let pair = Pair {
+        left: left.node(),
+        right: right.node(),
     };
-    let ids = sets_of(alloc, store, 0, within, &[tally])?;
+    let ids = sets_of_pairs(alloc, store, 0, operation, &[pair])?;
     Ok(ids[0])
 }

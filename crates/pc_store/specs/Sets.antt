@@ -12,6 +12,10 @@ domains_of store = map (λ layer. layer.domain) store
 unfoldable pub layer_of : Id → ℕ
 layer_of id = id.layer
 
+-- the id of a node of a layer
+unfoldable pub id_at : ℕ → ℕ → Id
+id_at layer node = record { layer = layer; node = node }
+
 -- an id of a store
 unfoldable pub IsId : List Layer → Id → Type 0
 IsId store id = (id.layer ≤ length store) × (id.node < node_count (drop id.layer store))

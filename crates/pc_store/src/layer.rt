@@ -3,8 +3,9 @@
 ghost use Rattle.std.specs.Prelude.{◌≡◌, ◌<◌, ℕ, length, slice_get, slice_index, slice_index_or, take, replicate, map, All, Some, IfOk, OnOk, OnErr};
 ghost use Rattle.pc_store.specs.Layered.{IsDomain, HasRow, new_layer, with_row_at};
 
-use crate::table::Table;
+use crate::table::{Row, Table};
 use pc_base::NoMemory;
+use smallvec::SmallVec;
 use std::alloc::Global;
 
 /// The most values that a variable has.
@@ -24,8 +25,10 @@ impl Layer {
         ensures { IfOk result (λ layer. layer ≡ new_layer domain) }
     {
         let mut table = Table::new(alloc);
-        table.intern(&[0; MOST_VALUES][..domain as usize])?;
-        table.intern(&[1; MOST_VALUES][..domain as usize])?;
+        let empty = SmallVec::from_slice(alloc, &[0; MOST_VALUES][..domain as usize])?;
+        table.intern(&empty)?;
+        let full = SmallVec::from_slice(alloc, &[1; MOST_VALUES][..domain as usize])?;
+        table.intern(&full)?;
         Ok(Layer { domain, table })
     }
 }
@@ -44,10 +47,10 @@ pub(crate) fn new_layers(alloc: Global, domains: &[u32]) -> Result<Vec<Layer>, N
 
 /// The node with a row, in one of the layers. A row that isn't there goes to the end of its layer. Want of memory
 /// leaves the layers as they were.
-pub(crate) fn intern_at(layers: &mut Vec<Layer>, place: usize, row: &[u32]) -> Result<u32, NoMemory>
+pub(crate) fn intern_at(layers: &mut Vec<Layer>, place: usize, row: &Row) -> Result<u32, NoMemory>
     requires { place < length layers.old.items }
-    ensures row { IfOk result (λ node. HasRow layers.new.items place node row.now) }
-    ensures grows { OnOk result (layers.new.items ≡ with_row_at layers.old.items place row.now) }
+    ensures row { IfOk result (λ node. HasRow layers.new.items place node row.now.items) }
+    ensures grows { OnOk result (layers.new.items ≡ with_row_at layers.old.items place row.now.items) }
     ensures err { OnErr result (layers.new.items ≡ layers.old.items) }
 {
     layers[place].table.intern(row)

@@ -7,7 +7,9 @@ ghost use Rattle.pc_diagram.specs.Words.{is_word};
 use crate::id::{Id, write_nodes};
 use crate::layer::{Layer, intern_at, new_layers};
 use crate::size::{EMPTY, size_of};
+use crate::table::Row;
 use pc_base::NoMemory;
+use smallvec::SmallVec;
 use std::alloc::Global;
 use std::marker::Model;
 
@@ -22,7 +24,7 @@ pub struct Store {
     layers: Vec<Layer>,
 
     // The row that is looked up, so that a look-up takes no memory.
-    row: Vec<u32>,
+    row: Row,
 }
 
 impl Model for Store {
@@ -41,7 +43,7 @@ impl Model for Store {
 impl Store {
     ghost use Rattle.pc_store.specs.declared.id.Id.{Id};
     ghost use Rattle.pc_store.specs.Layered.{IsDomain, new_layer};
-    ghost use Rattle.pc_store.specs.Sets.{domains_of, layer_of, IsId, IsIdAt, has, leads, SameWords, Keeps};
+    ghost use Rattle.pc_store.specs.Sets.{domains_of, layer_of, id_at, IsId, IsIdAt, has, leads, SameWords, Keeps};
 
     /// A store over variables that take so many values, from 1 to 64, in order.
     pub fn new(alloc: Global, domains: &[u32]) -> Result<Store, NoMemory>
@@ -52,7 +54,7 @@ impl Store {
     {
         Ok(Store {
             layers: new_layers(alloc, domains)?,
-            row: Vec::new(alloc),
+            row: SmallVec::new(alloc),
         })
     }
 
@@ -122,7 +124,7 @@ impl Store {
         ensures err { OnErr result (self.new ≡ self.old) }
     {
         write_nodes(&mut self.row, children)?;
-        let node = intern_at(&mut self.layers, layer as usize, self.row.as_slice())?;
+        let node = intern_at(&mut self.layers, layer as usize, &self.row)?;
         Ok(Id { layer, node })
     }
 
@@ -134,11 +136,20 @@ impl Store {
         ensures is_id { IsIdAt self.now (layer_of id + 1) result }
         ensures set { (word : List ℕ) → has self.now result word ≡ has self.now id (value ∷ word) }
     {
-        let row = self.layers[id.layer as usize].table.row(id.node as usize);
-        Id {
-            layer: id.layer + 1,
-            node: row[value as usize],
-        }
+        let _layers = &self.layers;
+        let children = self.children(id);
+        Id::at(id.layer() + 1, children[value as usize])
+    }
+
+    /// The nodes of the next layer for what words of this set go on with, one for each value.
+    pub fn children(&self, id: Id) -> &[u32]
+        requires known { IsId self.now id }
+        requires inner { layer_of id < length (domains_of self.now) }
+        ensures width { length result.now ≡ slice_index (domains_of self.now) (layer_of id) }
+        ensures ids { All (λ node. IsIdAt self.now (layer_of id + 1) (id_at (layer_of id + 1) node)) result.now }
+        ensures sets { (value : ℕ) (word : List ℕ) → has self.now (id_at (layer_of id + 1) (slice_index result.now value)) word ≡ has self.now id (value ∷ word) }
+    {
+        self.layers[id.layer as usize].table.row(id.node as usize)
     }
 
     /// The size of a set: how many different non-empty rests its beginnings have, from the empty one to whole words. It

@@ -1,8 +1,6 @@
-use Rattle.std.proofs.Common.{◌≡◌, ℕ, suc, zero, ◌<◌, length, subst, ap, sym, ◌∙◌, replicate, set, get_or, slice_index, All, arith, rules}
-use Rattle.std.proofs.lemmas.Bool.{cases_eq}
-use Rattle.std.proofs.lemmas.List.{get_or-replicate, get_or-set_same, get_or-set_other, length-set, length-replicate}
+use Rattle.std.proofs.Common.{◌≡◌, ℕ, suc, zero, ◌<◌, length, subst, ap, sym, ◌∙◌, replicate, set, slice_index, All, arith}
+use Rattle.std.proofs.lemmas.List.{get_or-replicate, length-set, length-replicate}
 use Rattle.pc_store.specs.declared.id.Id.{Id}
-use Rattle.pc_store.specs.declared.store.Store.{Store}
 use Rattle.pc_store.specs.Sets.{IsIdAt, domains_of}
 use Rattle.pc_apply.proofs.tests.all_but.Goals as goal
 

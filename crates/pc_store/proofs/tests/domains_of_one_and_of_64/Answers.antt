@@ -1,4 +1,4 @@
-use Rattle.std.proofs.Common.{◌≡◌, ℕ, ◌+◌, length, subst, ap, sym, ◌∙◌, refl}
+use Rattle.std.proofs.Common.{◌≡◌, length, subst, ap}
 use Rattle.std.proofs.lemmas.List.{get_or-replicate}
 use Rattle.pc_store.specs.Sets.{IsIdAt, domains_of}
 use Rattle.pc_store.proofs.tests.domains_of_one_and_of_64.Goals as goal

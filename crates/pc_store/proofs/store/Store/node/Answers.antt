@@ -15,8 +15,8 @@ invariant_of-self-2 c =
     let lt : c.args.layer < length (domains_of old) = rw c.self.view_is c.requires.inner in
     let width : length c.args.children.now ≡ get_or (domains_of old) c.args.layer 0 = rw c.self.view_is c.requires.width in
     let below : All (IsIdAt old (c.args.layer + 1)) c.args.children.now = rw c.self.view_is c.requires.below in
-    let grows : c.intern_at.new.layers.items ≡ with_row_at old c.args.layer (map (λ child. child.node) c.args.children.now) = c.in_ok-node.ensures.grows ∙ ap (with_row_at old c.args.layer) (c.as_slice.ensures.value ∙ c.in_ok-write_nodes.ensures) in
-    let row : HasRow c.intern_at.new.layers.items c.args.layer c.in_ok-node.node (map (λ child. child.node) c.args.children.now) = subst (HasRow c.intern_at.new.layers.items c.args.layer c.in_ok-node.node) (c.as_slice.ensures.value ∙ c.in_ok-write_nodes.ensures) c.in_ok-node.ensures.row in
+    let grows : c.intern_at.new.layers.items ≡ with_row_at old c.args.layer (map (λ child. child.node) c.args.children.now) = c.in_ok-node.ensures.grows ∙ ap (with_row_at old c.args.layer) c.in_ok-write_nodes.ensures in
+    let row : HasRow c.intern_at.new.layers.items c.args.layer c.in_ok-node.node (map (λ child. child.node) c.args.children.now) = subst (HasRow c.intern_at.new.layers.items c.args.layer c.in_ok-node.node) c.in_ok-write_nodes.ensures c.in_ok-node.ensures.row in
     ((node_made old c.intern_at.new.layers.items c.args.layer c.in_ok-node.node c.args.children.now c.self.invariant lt width below grows row).store)
 
 pub returns-clause-is_id : goal.returns-clause-is_id
@@ -25,8 +25,8 @@ returns-clause-is_id c =
     let lt : c.args.layer < length (domains_of old) = rw c.self.view_is c.requires.inner in
     let width : length c.args.children.now ≡ get_or (domains_of old) c.args.layer 0 = rw c.self.view_is c.requires.width in
     let below : All (IsIdAt old (c.args.layer + 1)) c.args.children.now = rw c.self.view_is c.requires.below in
-    let grows : c.intern_at.new.layers.items ≡ with_row_at old c.args.layer (map (λ child. child.node) c.args.children.now) = c.in_ok-node.ensures.grows ∙ ap (with_row_at old c.args.layer) (c.as_slice.ensures.value ∙ c.in_ok-write_nodes.ensures) in
-    let row : HasRow c.intern_at.new.layers.items c.args.layer c.in_ok-node.node (map (λ child. child.node) c.args.children.now) = subst (HasRow c.intern_at.new.layers.items c.args.layer c.in_ok-node.node) (c.as_slice.ensures.value ∙ c.in_ok-write_nodes.ensures) c.in_ok-node.ensures.row in
+    let grows : c.intern_at.new.layers.items ≡ with_row_at old c.args.layer (map (λ child. child.node) c.args.children.now) = c.in_ok-node.ensures.grows ∙ ap (with_row_at old c.args.layer) c.in_ok-write_nodes.ensures in
+    let row : HasRow c.intern_at.new.layers.items c.args.layer c.in_ok-node.node (map (λ child. child.node) c.args.children.now) = subst (HasRow c.intern_at.new.layers.items c.args.layer c.in_ok-node.node) c.in_ok-write_nodes.ensures c.in_ok-node.ensures.row in
     ((node_made old c.intern_at.new.layers.items c.args.layer c.in_ok-node.node c.args.children.now c.self.invariant lt width below grows row).is_id)
 
 pub returns-clause-set : goal.returns-clause-set
@@ -35,8 +35,8 @@ returns-clause-set c =
     let lt : c.args.layer < length (domains_of old) = rw c.self.view_is c.requires.inner in
     let width : length c.args.children.now ≡ get_or (domains_of old) c.args.layer 0 = rw c.self.view_is c.requires.width in
     let below : All (IsIdAt old (c.args.layer + 1)) c.args.children.now = rw c.self.view_is c.requires.below in
-    let grows : c.intern_at.new.layers.items ≡ with_row_at old c.args.layer (map (λ child. child.node) c.args.children.now) = c.in_ok-node.ensures.grows ∙ ap (with_row_at old c.args.layer) (c.as_slice.ensures.value ∙ c.in_ok-write_nodes.ensures) in
-    let row : HasRow c.intern_at.new.layers.items c.args.layer c.in_ok-node.node (map (λ child. child.node) c.args.children.now) = subst (HasRow c.intern_at.new.layers.items c.args.layer c.in_ok-node.node) (c.as_slice.ensures.value ∙ c.in_ok-write_nodes.ensures) c.in_ok-node.ensures.row in
+    let grows : c.intern_at.new.layers.items ≡ with_row_at old c.args.layer (map (λ child. child.node) c.args.children.now) = c.in_ok-node.ensures.grows ∙ ap (with_row_at old c.args.layer) c.in_ok-write_nodes.ensures in
+    let row : HasRow c.intern_at.new.layers.items c.args.layer c.in_ok-node.node (map (λ child. child.node) c.args.children.now) = subst (HasRow c.intern_at.new.layers.items c.args.layer c.in_ok-node.node) c.in_ok-write_nodes.ensures c.in_ok-node.ensures.row in
     rw (← c.self.view_is) ((node_made old c.intern_at.new.layers.items c.args.layer c.in_ok-node.node c.args.children.now c.self.invariant lt width below grows row).words)
 
 pub returns-clause-only : goal.returns-clause-only
@@ -45,8 +45,8 @@ returns-clause-only c =
     let lt : c.args.layer < length (domains_of old) = rw c.self.view_is c.requires.inner in
     let width : length c.args.children.now ≡ get_or (domains_of old) c.args.layer 0 = rw c.self.view_is c.requires.width in
     let below : All (IsIdAt old (c.args.layer + 1)) c.args.children.now = rw c.self.view_is c.requires.below in
-    let grows : c.intern_at.new.layers.items ≡ with_row_at old c.args.layer (map (λ child. child.node) c.args.children.now) = c.in_ok-node.ensures.grows ∙ ap (with_row_at old c.args.layer) (c.as_slice.ensures.value ∙ c.in_ok-write_nodes.ensures) in
-    let row : HasRow c.intern_at.new.layers.items c.args.layer c.in_ok-node.node (map (λ child. child.node) c.args.children.now) = subst (HasRow c.intern_at.new.layers.items c.args.layer c.in_ok-node.node) (c.as_slice.ensures.value ∙ c.in_ok-write_nodes.ensures) c.in_ok-node.ensures.row in
+    let grows : c.intern_at.new.layers.items ≡ with_row_at old c.args.layer (map (λ child. child.node) c.args.children.now) = c.in_ok-node.ensures.grows ∙ ap (with_row_at old c.args.layer) c.in_ok-write_nodes.ensures in
+    let row : HasRow c.intern_at.new.layers.items c.args.layer c.in_ok-node.node (map (λ child. child.node) c.args.children.now) = subst (HasRow c.intern_at.new.layers.items c.args.layer c.in_ok-node.node) c.in_ok-write_nodes.ensures c.in_ok-node.ensures.row in
     ((node_made old c.intern_at.new.layers.items c.args.layer c.in_ok-node.node c.args.children.now c.self.invariant lt width below grows row).only)
 
 pub returns-clause-keeps : goal.returns-clause-keeps
@@ -55,6 +55,6 @@ returns-clause-keeps c =
     let lt : c.args.layer < length (domains_of old) = rw c.self.view_is c.requires.inner in
     let width : length c.args.children.now ≡ get_or (domains_of old) c.args.layer 0 = rw c.self.view_is c.requires.width in
     let below : All (IsIdAt old (c.args.layer + 1)) c.args.children.now = rw c.self.view_is c.requires.below in
-    let grows : c.intern_at.new.layers.items ≡ with_row_at old c.args.layer (map (λ child. child.node) c.args.children.now) = c.in_ok-node.ensures.grows ∙ ap (with_row_at old c.args.layer) (c.as_slice.ensures.value ∙ c.in_ok-write_nodes.ensures) in
-    let row : HasRow c.intern_at.new.layers.items c.args.layer c.in_ok-node.node (map (λ child. child.node) c.args.children.now) = subst (HasRow c.intern_at.new.layers.items c.args.layer c.in_ok-node.node) (c.as_slice.ensures.value ∙ c.in_ok-write_nodes.ensures) c.in_ok-node.ensures.row in
+    let grows : c.intern_at.new.layers.items ≡ with_row_at old c.args.layer (map (λ child. child.node) c.args.children.now) = c.in_ok-node.ensures.grows ∙ ap (with_row_at old c.args.layer) c.in_ok-write_nodes.ensures in
+    let row : HasRow c.intern_at.new.layers.items c.args.layer c.in_ok-node.node (map (λ child. child.node) c.args.children.now) = subst (HasRow c.intern_at.new.layers.items c.args.layer c.in_ok-node.node) c.in_ok-write_nodes.ensures c.in_ok-node.ensures.row in
     rw (← c.self.view_is) ((node_made old c.intern_at.new.layers.items c.args.layer c.in_ok-node.node c.args.children.now c.self.invariant lt width below grows row).keeps)

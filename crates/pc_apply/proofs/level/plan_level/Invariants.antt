@@ -1,6 +1,0 @@
-use Rattle.std.proofs.Common.{take}
-use Rattle.pc_apply.specs.Levels.{EachFits}
-use Rattle.pc_apply.proofs.level.plan_level.Given as goal
-
-abbrev pub invariant-loop-tally : goal.invariant-loop-tally
-invariant-loop-tally l = EachFits l.store l.layer l.within (take l.tally-index l.tallies) l.below.keys l.targets.items l.plans.items

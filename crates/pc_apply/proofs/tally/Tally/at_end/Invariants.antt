@@ -1,9 +1,0 @@
-use Rattle.std.proofs.Common.{◌≡◌, ◌≤◌, [], take}
-use Rattle.pc_apply.specs.Counting.{count_of}
-use Rattle.pc_apply.proofs.tally.Tally.at_end.Given as goal
-
-abbrev pub invariant-loop-set : goal.invariant-loop-set
-invariant-loop-set l = record {
-  counted : l.count ≡ count_of l.store (take l.set-index l.set-items) [];
-  few : l.count ≤ l.set-index;
-}

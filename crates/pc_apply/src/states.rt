@@ -1,0 +1,27 @@
+//! The different states of a layer.
+
+ghost use Rattle.std.specs.Prelude.{◌≡◌, IfOk, OnOk};
+ghost use Rattle.pc_apply.specs.Levels.{StandsFor, with_state};
+
+use indexmap::IndexSet;
+use pc_base::NoMemory;
+use std::hash::Hash;
+
+/// The place of a state, which goes to the end if it isn't there.
+pub(crate) fn place<S: Eq + Hash + Drop>(
+    states: &mut IndexSet<S>,
+    state: S,
+) -> Result<u32, NoMemory>
+    ensures stands { IfOk result (λ n. StandsFor S.eq states.new.keys n state) }
+    ensures keys { OnOk result (states.new.keys ≡ with_state S.eq states.old.keys state) }
+{
+    let (place, _) = states.insert_full(state)?;
+    number(place)
+}
+
+/// A place as a number of 32 bits.
+pub(crate) fn number(place: usize) -> Result<u32, NoMemory>
+    ensures { IfOk result (λ n. n ≡ place) }
+{
+    u32::try_from(place).map_err(|_| NoMemory)
+}
