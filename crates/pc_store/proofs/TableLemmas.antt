@@ -1,12 +1,13 @@
 -- A row among rows, found by a test.
-use Rattle.std.proofs.Common.{◌≡◌, ℕ, zero, suc, ◌+◌, Bool, true, false, cond, ◌||◌, nat_eq, List, [], ◌∷◌, ◌++◌, map, Option, None, Some, slice_get, position, refl, sym, ap, ◌∙◌, arith, subst, IfSome, if◌then◌else◌}
+use Rattle.std.proofs.Common.{◌≡◌, ℕ, zero, suc, ◌+◌, Bool, true, false, cond, ◌||◌, nat_eq, List, [], ◌∷◌, ◌++◌, map, take, length, get_or, ◌<◌, Option, None, Some, slice_get, position, refl, sym, ap, ◌∙◌, arith, subst, IfSome, if◌then◌else◌}
 use Rattle.std.specs.Cmp.Lexicographic.{pointwise}
-use Rattle.std.specs.List.{list_any, position_from}
+use Rattle.std.specs.List.{list_any, position_from, IsDistinct, AllByRecursion}
 use Rattle.pc_store.specs.Rows.{with_row}
 use Rattle.std.specs.Option.{option_map}
 use Rattle.std.proofs.lemmas.Iterator.Adapters.{position_from-zero}
-use Rattle.std.proofs.lemmas.List.{map-append}
+use Rattle.std.proofs.lemmas.List.{map-append, take_more}
 use Rattle.std.proofs.lemmas.Slice.Eq.{bytes_eq-Decides}
+use Rattle.std.proofs.lemmas.Cmp.{nat_list_eq_equiv}
 
 module _ {K : Type 0} (items : K → List ℕ) (row : List ℕ) where
   abbrev test : K → Bool
@@ -62,3 +63,20 @@ module _ {K : Type 0} (items : K → List ℕ) (row : List ℕ) where
       at_place [] i h = absurd cc
       at_place (x ∷ xs) zero h = ap (λ o. option_map items o) h
       at_place (x ∷ xs) (suc i) h = at_place xs i h
+
+-- rows that stand once, one after another
+all_at : {X : Type 0} (P : X → Type 0) (xs : List X) (i : ℕ) (d : X) → AllByRecursion P xs → i < length xs → P (get_or xs i d)
+all_at P [] i d h lt = absurd (omega arith)
+all_at P (x ∷ xs) zero d h lt = h.0
+all_at P (x ∷ xs) (suc i) d h lt = all_at P xs i d h.1 (omega arith)
+
+apart_before : (rows : List (List ℕ)) (i : ℕ) (d : List ℕ) → i < length rows → IsDistinct (pointwise nat_eq) rows → list_any (pointwise nat_eq (get_or rows i d)) (take i rows) ≡ false
+unfolding IsDistinct
+apart_before [] i d lt h = absurd (omega arith)
+apart_before (first ∷ rows) zero d lt h = refl
+apart_before (first ∷ rows) (suc i) d lt h =
+    let apart : pointwise nat_eq (get_or rows i d) first ≡ false = nat_list_eq_equiv.symm (get_or rows i d) first ∙ all_at (λ y. pointwise nat_eq first y ≡ false) rows i d h.0 (omega arith) in
+    ap (λ b. b || list_any (pointwise nat_eq (get_or rows i d)) (take i rows)) apart ∙ apart_before rows i d (omega arith) h.1
+
+pub next_row : (rows : List (List ℕ)) (i : ℕ) (d : List ℕ) → i < length rows → IsDistinct (pointwise nat_eq) rows → with_row (take i rows) (get_or rows i d) ≡ take (i + 1) rows
+next_row rows i d lt h = ap (λ b. if b then take i rows else take i rows ++ get_or rows i d ∷ []) (apart_before rows i d lt h) ∙ sym (take_more rows i d lt)

@@ -1,7 +1,6 @@
-use Rattle.std.proofs.Common.{◌∙◌, ap}
-use Rattle.pc_store.specs.Rows.{with_row}
+use Rattle.std.proofs.Common.{◌∙◌}
 use Rattle.pc_store.proofs.TableLemmas.{row_put, row_stored}
-use Rattle.pc_store.proofs.table.Table.insert.Goals as goal
+use Rattle.pc_store.proofs.table.put_any.Goals as goal
 
 pub returns-clause-stands : goal.returns-clause-stands
 returns-clause-stands c =
@@ -10,5 +9,4 @@ returns-clause-stands c =
 
 pub returns-clause-rows : goal.returns-clause-rows
 returns-clause-rows c =
-    row_put (λ row. row.items) c.args.row.now.items c.self.inside.rows.keys c.insert_full.new.self.keys c.in_ok-copy.copy (c.in_ok-copy.ensures.ok ∙ c.as_slice.ensures) c.in_ok-place.ensures.keys
-    ∙ ap (λ rows. with_row rows c.args.row.now.items) c.self.view_is
+    row_put (λ row. row.items) c.args.row.now.items c.args.rows.now.keys c.insert_full.new.self.keys c.in_ok-copy.copy (c.in_ok-copy.ensures.ok ∙ c.as_slice.ensures) c.in_ok-place.ensures.keys
