@@ -1,9 +1,10 @@
 -- Pairs of sets as states of a product.
-use Rattle.std.proofs.Common.{◌≡◌, ℕ, ◌+◌, ◌<◌, nat_eq, Bool, true, false, ◌&&◌, List, ◌∷◌, drop, length, slice_index, All, refl, sym, ap, ◌∙◌, subst, arith, true≢false}
+use Rattle.std.proofs.Common.{◌≡◌, ℕ, ◌+◌, nat_eq, Bool, true, false, ◌&&◌, List, ◌∷◌, drop, refl, sym, ap, ◌∙◌, subst, arith, true≢false}
 use Rattle.std.proofs.lemmas.Bool.Decides.{nat_tests}
 use Rattle.pc_base.proofs.DistinctLemmas.{both_true_parts}
 use Rattle.pc_diagram.specs.Words.{is_word}
 use Rattle.pc_store.specs.declared.id.Id.{Id}
+use Rattle.pc_store.specs.declared.id.Node.{Node}
 use Rattle.pc_store.specs.declared.store.Store.{Store}
 use Rattle.pc_store.specs.Sets.{domains_of, layer_of, id_at, IsId, IsIdAt, has}
 use Rattle.pc_apply.specs.declared.pair.Operation.{Operation}
@@ -16,40 +17,28 @@ use Rattle.pc_apply.proofs.LevelLemmas.{FollowAlike}
 -- equal pairs follow on the same
 pub pairs_alike : (store : Store) (layer : ℕ) (operation : Operation) → FollowAlike same_pair store layer (pairs_at store layer operation) (pairs_at store (layer + 1) operation)
 pairs_alike store layer operation pair value next other e h =
-    let parts = both_true_parts (nat_eq next.left other.left) (nat_eq next.right other.right) e in
+    let parts = both_true_parts (nat_eq next.left.number other.left.number) (nat_eq next.right.number other.right.number) e in
     subst (Follows store layer (pairs_at store layer operation) (pairs_at store (layer + 1) operation) pair value)
-    (one next other (equal next.left other.left parts.0) (equal next.right other.right parts.1)) h
+    (one next other (equal next.left.number other.left.number parts.0) (equal next.right.number other.right.number parts.1)) h
   where
-    one : (a b : Pair) → a.left ≡ b.left → a.right ≡ b.right → a ≡ b
-    one a b l r = λ i. record { left = l i; right = r i }
+    one : (a b : Pair) → a.left.number ≡ b.left.number → a.right.number ≡ b.right.number → a ≡ b
+    one a b l r = λ i. record { left = record { number = l i }; right = record { number = r i } }
 
     equal : (m n : ℕ) → nat_eq m n ≡ true → m ≡ n
     equal m n e = grind (arith, nat_tests)
 
--- the nodes that a set of a layer goes on in
-pub record IsRowOf (store : Store) (layer node : ℕ) (row : List ℕ) : Type 0 where
-  pub width : length row ≡ slice_index (domains_of store) layer
-  pub ids : All (λ child. IsIdAt store (layer + 1) (id_at (layer + 1) child)) row
-  pub sets : (value : ℕ) (word : List ℕ) → has store (id_at (layer + 1) (slice_index row value)) word ≡ has store (id_at layer node) (value ∷ word)
+-- a set of the next layer is what the words of a set go on in after a value
+abbrev pub GoesOn : Store → ℕ → Node → ℕ → Node → Type 0
+GoesOn store layer node value next = (word : List ℕ) → has store (id_at (layer + 1) next) word ≡ has store (id_at layer node) (value ∷ word)
 
-pub row_at : (store : Store) (layer node : ℕ) (id : Id) (row : List ℕ) → id ≡ id_at layer node → IsIdAt store layer (id_at layer node) →
-    length row ≡ slice_index (domains_of store) (layer_of id) → All (λ child. IsIdAt store (layer_of id + 1) (id_at (layer_of id + 1) child)) row →
-    ((value : ℕ) (word : List ℕ) → has store (id_at (layer_of id + 1) (slice_index row value)) word ≡ has store id (value ∷ word)) → IsRowOf store layer node row
-row_at store layer node id row e is width ids sets = record {
-  width = subst (λ l. length row ≡ slice_index (domains_of store) l) there width;
-  ids = subst (λ l. All (λ child. IsIdAt store (l + 1) (id_at (l + 1) child)) row) there ids;
-  sets = λ value word. subst (λ l. has store (id_at (l + 1) (slice_index row value)) word ≡ has store id (value ∷ word)) there (sets value word) ∙ ap (λ x. has store x (value ∷ word)) e;
-}
-  where
-    there : layer_of id ≡ layer
-    there = ap layer_of e ∙ is.1
-
--- the nodes at one place of the rows of two sets
-pub pair_follows : (store : Store) (layer : ℕ) (operation : Operation) (pair : Pair) (value : ℕ) (lefts rights : List ℕ) → IsRowOf store layer pair.left lefts → IsRowOf store layer pair.right rights → value < length lefts →
-    Follows store layer (pairs_at store layer operation) (pairs_at store (layer + 1) operation) pair value (record { left = slice_index lefts value; right = slice_index rights value })
-pair_follows store layer operation pair value lefts rights left right lt = record {
-  is_at = record { left = left.ids value 0 lt; right = right.ids value 0 (let l = left.width in let r = right.width in omega arith) };
-  same = λ word over. λ i. holds operation (left.sets value word i) (right.sets value word i);
+-- what two sets go on in after a value
+pub pair_follows : (store : Store) (layer : ℕ) (operation : Operation) (pair next : Pair) (value : ℕ)
+    → IsIdAt store (layer + 1) (id_at (layer + 1) next.left) → GoesOn store layer pair.left value next.left
+    → IsIdAt store (layer + 1) (id_at (layer + 1) next.right) → GoesOn store layer pair.right value next.right
+    → Follows store layer (pairs_at store layer operation) (pairs_at store (layer + 1) operation) pair value next
+pair_follows store layer operation pair next value left_is left right_is right = record {
+  is_at = record { left = left_is; right = right_is };
+  same = λ word over. λ i. holds operation (left word i) (right word i);
 }
 
 -- what an operation asks for of words over the domains are such words
@@ -66,11 +55,11 @@ holds_over Without false true right f g = absurd (true≢false (sym (f refl)))
 holds_over Without false false right f g = refl
 
 -- an id is that of its node
-pub at_node : (layer : ℕ) (id : Id) (node : ℕ) → layer_of id ≡ layer → id ≡ id_at (layer_of id) node → id ≡ id_at layer node
+pub at_node : (layer : ℕ) (id : Id) (node : Node) → layer_of id ≡ layer → id ≡ id_at (layer_of id) node → id ≡ id_at layer node
 at_node layer id node is e = e ∙ ap (λ l. id_at l node) is
 
 -- what an operation asks for of sets of whole words
-pub whole_words : (store : Store) (operation : Operation) (left right : Id) (first second : ℕ) → IsIdAt store 0 left → IsIdAt store 0 right → left ≡ id_at (layer_of left) first → right ≡ id_at (layer_of right) second →
+pub whole_words : (store : Store) (operation : Operation) (left right : Id) (first second : Node) → IsIdAt store 0 left → IsIdAt store 0 right → left ≡ id_at (layer_of left) first → right ≡ id_at (layer_of right) second →
     ((id : Id) → IsId store id → (word : List ℕ) → has store id word ≡ true → is_word (drop (layer_of id) (domains_of store)) word ≡ true) → (word : List ℕ) →
     (is_over store 0 word && holds operation (has store (id_at 0 first) word) (has store (id_at 0 second) word)) ≡ holds operation (has store left word) (has store right word)
 whole_words store operation left right first second is_left is_right left_node right_node over word =

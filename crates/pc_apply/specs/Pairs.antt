@@ -33,4 +33,4 @@ pub record Makes (store : Store) (layer : ℕ) (operation : Operation) (left rig
 
 -- equality of pairs
 abbrev pub same_pair : Pair → Pair → Bool
-same_pair a b = nat_eq a.left b.left && nat_eq a.right b.right
+same_pair a b = nat_eq a.left.number b.left.number && nat_eq a.right.number b.right.number

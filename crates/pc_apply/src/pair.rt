@@ -6,7 +6,7 @@ ghost use Rattle.pc_apply.specs.Levels.{Answers};
 ghost use Rattle.pc_apply.specs.Pairs.{holds, HasBoth, pairs_at, Makes};
 
 use crate::ends::{all_or_none, has_empty_word};
-use pc_store::{Id, Store};
+use pc_store::{Id, Node, Store};
 
 /// Which words of two sets are asked for: those in both, those in either, or those in the first alone.
 #[derive(Clone, Copy, Debug)]
@@ -29,11 +29,11 @@ impl Operation {
     }
 }
 
-/// Two sets of one layer, by their nodes.
+/// Two sets of one layer.
 #[derive(Clone, Copy, Debug, PartialEq, Eq, Hash)]
 pub(crate) struct Pair {
-    pub left: u32,
-    pub right: u32,
+    pub left: Node,
+    pub right: Node,
 }
 
 impl Pair {
@@ -44,8 +44,8 @@ impl Pair {
         ensures { IfSome result (Answers store.now store.now layer (pairs_at store.now layer operation) self) }
     {
         store.words_are_over_domains();
-        let left = Id::at(layer, self.left);
-        let right = Id::at(layer, self.right);
+        let left = self.left.at(layer);
+        let right = self.right.at(layer);
         match operation {
             Operation::And => both(store, layer, left, right),
             Operation::Or => either(store, layer, left, right),
@@ -59,8 +59,8 @@ impl Pair {
         ensures { Answers store.now store.now (length (domains_of store.now)) (pairs_at store.now (length (domains_of store.now)) operation) self result }
     {
         let layer = store.variables();
-        let left = has_empty_word(store, Id::at(layer, self.left));
-        let right = has_empty_word(store, Id::at(layer, self.right));
+        let left = has_empty_word(store, self.left.at(layer));
+        let right = has_empty_word(store, self.right.at(layer));
         all_or_none(store, layer, operation.holds(left, right))
     }
 }

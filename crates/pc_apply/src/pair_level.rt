@@ -10,7 +10,7 @@ use crate::plan::Plan;
 use crate::states::{number, place};
 use indexmap::IndexSet;
 use pc_base::NoMemory;
-use pc_store::{Id, Store};
+use pc_store::Store;
 use std::alloc::Global;
 
 /// How the sets of the pairs of one layer are got from those of the different pairs of the next.
@@ -88,12 +88,10 @@ fn expand_pair(
     ensures leads { OnOk result ((operation : Operation) → LeadsFrom store.now layer (pairs_at store.now layer operation) (pairs_at store.now (layer + 1) operation) pair below.new.keys targets.new.items (length targets.old.items) (slice_index (domains_of store.now) layer)) }
     ensures more { OnOk result (Planned (HasBoth store.now (layer + 1)) below.old.keys below.new.keys targets.old.items targets.new.items) }
 {
-    let lefts = store.children(Id::at(layer, pair.left));
-    let rights = store.children(Id::at(layer, pair.right));
-    for (value, left) in lefts.iter().enumerate() {
+    for value in 0..store.domain(layer) {
         let next = Pair {
-            left: *left,
-            right: rights[value],
+            left: store.child_node(layer, pair.left, value),
+            right: store.child_node(layer, pair.right, value),
         };
         targets.push(place(below, next)?)?;
     }

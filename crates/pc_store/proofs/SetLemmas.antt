@@ -10,7 +10,7 @@ use Rattle.pc_base.specs.declared.memory.NoMemory.{NoMemory}
 use Rattle.pc_store.specs.declared.id.Id.{Id}
 use Rattle.pc_store.specs.declared.layer.Layer.{Layer}
 use Rattle.pc_store.specs.Layered.{row_of, node_count, accepts, IsRow, IsLayer, IsLayered, IsStore, IsDomain, RowFits, HasRow, with_row_at}
-use Rattle.pc_store.specs.Sets.{domains_of, layer_of, id_at, IsId, IsIdAt, has, has_in, leads, SameWords, Keeps}
+use Rattle.pc_store.specs.Sets.{domains_of, layer_of, IsId, IsIdAt, has, has_in, leads, SameWords, Keeps}
 use Rattle.pc_store.proofs.LayerLemmas.{two_nodes, empty_node, full_node, accepts_words, same_words, stands_within}
 use Rattle.pc_store.proofs.GrowthLemmas.{Grows, grows_domains, grows_length, grows_count, grows_drop, grows_accepts, grows_with, store_with}
 
@@ -153,19 +153,6 @@ pub child_has : (store : List Layer) (id : Id) (layer : Layer) → IsInner store
     has store (record { layer = id.layer + 1; node = get_or (row_of layer id.node) value 0 }) word ≡ has store id (value ∷ word)
 unfolding has
 child_has store id layer is value word = ap (λ l. accepts l id.node (value ∷ word)) (sym is.stands.is_first)
-
--- the children of an id, and their words
-pub row_ids : (store : List Layer) (id : Id) (layer : Layer) → IsInner store id layer → All (λ node. IsIdAt store (layer_of id + 1) (id_at (layer_of id + 1) node)) (row_of layer id.node)
-unfolding IsId layer_of id_at
-row_ids store id layer is = λ k d lt. let inside = is.stands.inside in ((omega arith, is.row.within k d lt), refl)
-
-pub row_has : (store : List Layer) (id : Id) (layer : Layer) → IsInner store id layer → (value : ℕ) (word : List ℕ) → has store (id_at (layer_of id + 1) (get_or (row_of layer id.node) value 0)) word ≡ has store id (value ∷ word)
-unfolding layer_of id_at
-row_has store id layer is value word = child_has store id layer is value word
-
-pub row_width : (store : List Layer) (id : Id) (layer : Layer) → IsInner store id layer → length (row_of layer id.node) ≡ get_or (domains_of store) (layer_of id) 0
-unfolding domains_of layer_of
-row_width store id layer is = is.row.width ∙ is.stands.domain
 
 -- a row of the nodes of children
 pub row_fits : (layers : List Layer) (place : ℕ) (row : List ℕ) → place < length layers → length row ≡ get_or (map (λ l. l.domain) layers) place 0 → All (λ child. child < node_count (drop (place + 1) layers)) row → RowFits layers place row

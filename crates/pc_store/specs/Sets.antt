@@ -1,6 +1,7 @@
 -- The sets of words that a store keeps.
 use Rattle.std.specs.Prelude.{◌≡◌, ℕ, ◌<◌, ◌≤◌, List, [], ◌∷◌, Bool, false, Option, None, Some, length, map, drop, slice_get}
 use Rattle.pc_store.specs.declared.id.Id.{Id}
+use Rattle.pc_store.specs.declared.id.Node.{Node}
 use Rattle.pc_store.specs.declared.layer.Layer.{Layer}
 use Rattle.pc_store.specs.Layered.{node_count, accepts}
 
@@ -13,8 +14,8 @@ unfoldable pub layer_of : Id → ℕ
 layer_of id = id.layer
 
 -- the id of a node of a layer
-unfoldable pub id_at : ℕ → ℕ → Id
-id_at layer node = record { layer = layer; node = node }
+unfoldable pub id_at : ℕ → Node → Id
+id_at layer node = record { layer = layer; node = node.number }
 
 -- an id of a store
 unfoldable pub IsId : List Layer → Id → Type 0

@@ -13,17 +13,15 @@ pub struct Id {
     pub(crate) node: u32,
 }
 
+/// A set of a layer that is known from elsewhere: an id without its layer, for those who keep many sets of one layer.
+#[derive(Clone, Copy, Debug, PartialEq, Eq, Hash)]
+pub struct Node {
+    pub(crate) number: u32,
+}
+
 impl Id {
     ghost use Rattle.std.specs.Prelude.{◌≡◌};
     ghost use Rattle.pc_store.specs.Sets.{layer_of, id_at};
-
-    /// The id of a node of a layer. It names a set only where the layer of the store has that node.
-    #[tactic(auto, unfolding(crate::specs::Sets::id_at))]
-    pub fn at(layer: u32, node: u32) -> Id
-        ensures { result ≡ id_at layer node }
-    {
-        Id { layer, node }
-    }
 
     /// The layer, counted from 0. Past the last variable stands one more layer.
     #[tactic(auto, unfolding(crate::specs::Sets::layer_of))]
@@ -33,12 +31,29 @@ impl Id {
         self.layer
     }
 
-    /// The number of its node among those of its layer.
+    /// The set without its layer.
     #[tactic(auto, unfolding(crate::specs::Sets::id_at, crate::specs::Sets::layer_of))]
-    pub fn node(self) -> u32
+    pub fn node(self) -> Node
         ensures { self ≡ id_at (layer_of self) result }
     {
-        self.node
+        Node { number: self.node }
+    }
+}
+
+impl Node {
+    ghost use Rattle.std.specs.Prelude.{◌≡◌};
+    ghost use Rattle.pc_store.specs.Sets.{layer_of, id_at};
+
+    /// The set as one of a layer. It is an id of a store only where it came from an id of that layer.
+    #[tactic(auto, unfolding(crate::specs::Sets::id_at, crate::specs::Sets::layer_of))]
+    pub fn at(self, layer: u32) -> Id
+        ensures id { result ≡ id_at layer self }
+        ensures layer { layer_of result ≡ layer }
+    {
+        Id {
+            layer,
+            node: self.number,
+        }
     }
 }
 

@@ -9,7 +9,7 @@ mod size;
 mod store;
 mod table;
 
-pub use id::Id;
+pub use id::{Id, Node};
 pub use store::Store;
 
 #[cfg(test)]

@@ -4,7 +4,7 @@ ghost use Rattle.std.specs.Prelude.{◌≡◌, ◌<◌, ◌≤◌, ◌+◌, ◌�
 ghost use Rattle.pc_diagram.specs.Rests.{size};
 ghost use Rattle.pc_diagram.specs.Words.{is_word};
 
-use crate::id::{Id, write_nodes};
+use crate::id::{Id, Node, write_nodes};
 use crate::layer::{Layer, intern_at, new_layers};
 use crate::size::{EMPTY, size_of};
 use crate::table::Row;
@@ -136,20 +136,22 @@ impl Store {
         ensures is_id { IsIdAt self.now (layer_of id + 1) result }
         ensures set { (word : List ℕ) → has self.now result word ≡ has self.now id (value ∷ word) }
     {
-        let _layers = &self.layers;
-        let children = self.children(id);
-        Id::at(id.layer() + 1, children[value as usize])
+        let row = self.layers[id.layer as usize].table.row(id.node as usize);
+        Id {
+            layer: id.layer + 1,
+            node: row[value as usize],
+        }
     }
 
-    /// The nodes of the next layer for what words of this set go on with, one for each value.
-    pub fn children(&self, id: Id) -> &[u32]
-        requires known { IsId self.now id }
-        requires inner { layer_of id < length (domains_of self.now) }
-        ensures width { length result.now ≡ slice_index (domains_of self.now) (layer_of id) }
-        ensures ids { All (λ node. IsIdAt self.now (layer_of id + 1) (id_at (layer_of id + 1) node)) result.now }
-        ensures sets { (value : ℕ) (word : List ℕ) → has self.now (id_at (layer_of id + 1) (slice_index result.now value)) word ≡ has self.now id (value ∷ word) }
+    /// The node of what words of a set go on with after a value. The set is given by its layer and its node.
+    pub fn child_node(&self, layer: u32, node: Node, value: u32) -> Node
+        requires known { IsIdAt self.now layer (id_at layer node) }
+        requires inner { layer < length (domains_of self.now) }
+        requires in_range { value < slice_index (domains_of self.now) layer }
+        ensures is_id { IsIdAt self.now (layer + 1) (id_at (layer + 1) result) }
+        ensures set { (word : List ℕ) → has self.now (id_at (layer + 1) result) word ≡ has self.now (id_at layer node) (value ∷ word) }
     {
-        self.layers[id.layer as usize].table.row(id.node as usize)
+        self.child(node.at(layer), value).node()
     }
 
     /// The size of a set: how many different non-empty rests its beginnings have, from the empty one to whole words. It

@@ -5,7 +5,7 @@ use Rattle.pc_apply.specs.declared.pair.Pair.{Pair}
 use Rattle.pc_apply.specs.Levels.{LeadsFrom}
 use Rattle.pc_apply.specs.Pairs.{same_pair, pairs_at}
 use Rattle.pc_apply.proofs.LevelLemmas.{Expanded, expanded_none, expanded_more, expanded_all}
-use Rattle.pc_apply.proofs.PairLemmas.{IsRowOf, row_at, pair_follows, pairs_alike}
+use Rattle.pc_apply.proofs.PairLemmas.{pair_follows, pairs_alike}
 use Rattle.pc_apply.proofs.pair_level.expand_pair.Goals as goal
 
 pub loop-value-init : goal.loop-value-init
@@ -21,14 +21,12 @@ loop-value-preserved c =
     let question = pairs_at store layer operation in
     let next_question = pairs_at store (layer + 1) operation in
     let value = c.loop-value.value in
-    let lefts = c.children-lefts.result.now in
-    let rights = c.children-rights.result.now in
-    let next : Pair = record { left = slice_index lefts value; right = slice_index rights value } in
-    let left : IsRowOf store layer c.args.pair.left lefts = row_at store layer c.args.pair.left c.at.result lefts c.at.ensures c.requires.sets.left c.children-lefts.ensures.width c.children-lefts.ensures.ids c.children-lefts.ensures.sets in
-    let right : IsRowOf store layer c.args.pair.right rights = row_at store layer c.args.pair.right c.at-2.result rights c.at-2.ensures c.requires.sets.right c.children-rights.ensures.width c.children-rights.ensures.ids c.children-rights.ensures.sets in
+    let next : Pair = record { left = c.child_node.result; right = c.child_node-in-loop-value.result } in
     subst (Expanded store layer question next_question c.args.pair (value + 1) c.args.below.now.keys c.place.new.states.keys c.args.targets.now.items) (sym {A = List ℕ} c.in_ok-push.ensures.items)
     (expanded_more same_pair store layer question next_question c.args.pair value c.args.below.now.keys c.loop-value.below.keys c.args.targets.now.items c.loop-value.targets.items next c.in_ok-place.field-0 c.place.new.states.keys
-    (pairs_alike store layer operation) (c.loop-value.invariant operation) (pair_follows store layer operation c.args.pair value lefts rights left right c.loop-value-test.true) c.in_ok-place.ensures.stands c.in_ok-place.ensures.keys)
+    (pairs_alike store layer operation) (c.loop-value.invariant operation)
+    (pair_follows store layer operation c.args.pair next value c.child_node.ensures.is_id c.child_node.ensures.set c.child_node-in-loop-value.ensures.is_id c.child_node-in-loop-value.ensures.set)
+    c.in_ok-place.ensures.stands c.in_ok-place.ensures.keys)
 
 pub returns-clause-leads : goal.returns-clause-leads
 returns-clause-leads c =
@@ -37,11 +35,9 @@ returns-clause-leads c =
     let layer = c.args.layer in
     let question = pairs_at store layer operation in
     let next_question = pairs_at store (layer + 1) operation in
-    let lefts = c.children-lefts.result.now in
-    let left : IsRowOf store layer c.args.pair.left lefts = row_at store layer c.args.pair.left c.at.result lefts c.at.ensures c.requires.sets.left c.children-lefts.ensures.width c.children-lefts.ensures.ids c.children-lefts.ensures.sets in
     let low = c.loop-value-test.false in
     let high = c.loop-value.auto.value-end in
-    let width = left.width in
+    let domain = c.domain-value-end.ensures.domain in
     let all : c.loop-value.value ≡ slice_index (domains_of store) layer = omega arith in
     subst (LeadsFrom store layer question next_question c.args.pair c.loop-value.below.keys c.loop-value.targets.items (length c.args.targets.now.items)) all
     (expanded_all store layer question next_question c.args.pair c.loop-value.value c.args.below.now.keys c.loop-value.below.keys c.args.targets.now.items c.loop-value.targets.items (c.loop-value.invariant operation))

@@ -9,7 +9,7 @@ use Rattle.pc_apply.proofs.pair_level.plan_pairs.Goals as goal
 
 pub plan_pair-requires-clause-sets : goal.plan_pair-requires-clause-sets
 plan_pair-requires-clause-sets c =
-    let none : Pair = record { left = 0; right = 0 } in
+    let none : Pair = record { left = record { number = 0 }; right = record { number = 0 } } in
     let i = c.loop-pair.pair-index in
     let pair : Pair = get_or c.args.pairs.now i none in
     let read : pair ≡ get_or c.args.pairs.now i pair = get_or_default c.args.pairs.now i none pair c.loop-pair-test.true in
@@ -17,7 +17,7 @@ plan_pair-requires-clause-sets c =
 
 pub loop-pair-preserved : goal.loop-pair-preserved
 loop-pair-preserved c =
-    let none : Pair = record { left = 0; right = 0 } in
+    let none : Pair = record { left = record { number = 0 }; right = record { number = 0 } } in
     let i = c.loop-pair.pair-index in
     let pair : Pair = get_or c.args.pairs.now i none in
     let read : pair ≡ get_or c.args.pairs.now i pair = get_or_default c.args.pairs.now i none pair c.loop-pair-test.true in

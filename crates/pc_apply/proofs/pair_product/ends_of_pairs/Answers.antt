@@ -11,7 +11,7 @@ use Rattle.pc_apply.proofs.pair_product.ends_of_pairs.Goals as goal
 
 pub at_end-requires : goal.at_end-requires
 at_end-requires c =
-    let none : Pair = record { left = 0; right = 0 } in
+    let none : Pair = record { left = record { number = 0 }; right = record { number = 0 } } in
     let i = c.loop-pair.pair-index in
     let pair : Pair = get_or c.args.pairs.now i none in
     let read : pair ≡ get_or c.args.pairs.now i pair = get_or_default c.args.pairs.now i none pair c.loop-pair-test.true in
@@ -19,7 +19,7 @@ at_end-requires c =
 
 pub loop-pair-preserved : goal.loop-pair-preserved
 loop-pair-preserved c =
-    let none : Pair = record { left = 0; right = 0 } in
+    let none : Pair = record { left = record { number = 0 }; right = record { number = 0 } } in
     let i = c.loop-pair.pair-index in
     let pair : Pair = get_or c.args.pairs.now i none in
     let read : pair ≡ get_or c.args.pairs.now i pair = get_or_default c.args.pairs.now i none pair c.loop-pair-test.true in
