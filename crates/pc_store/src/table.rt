@@ -15,7 +15,7 @@ use std::marker::Model;
 pub(crate) type Row = SmallVec<u32, SHORT>;
 
 /// The most numbers of a row that takes no memory of its own.
-const SHORT: usize = 4;
+const SHORT: usize = 8;
 
 /// Rows of numbers in order, none twice. The place of a row is found by its hash.
 #[derive(Debug, Drop)]
