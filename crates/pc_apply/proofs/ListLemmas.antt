@@ -1,11 +1,10 @@
 -- Lists of sets, and counting their sets after a value.
-use Rattle.std.proofs.Common.{◌≡◌, ℕ, zero, suc, ◌+◌, ◌<◌, ◌≤◌, nat_eq, Bool, true, false, cond, ◌&&◌, List, [], ◌∷◌, ◌++◌, map, take, length, get_or, slice_get, Some, All, refl, sym, ap, ◌∙◌, subst, arith, inl, inr, ◌⊎◌, if◌then◌else◌, append_assoc}
+use Rattle.std.proofs.Common.{◌≡◌, ℕ, ◌+◌, ◌<◌, ◌≤◌, nat_eq, Bool, true, false, cond, ◌&&◌, List, [], ◌∷◌, ◌++◌, map, take, length, get_or, slice_get, Some, All, refl, sym, ap, ◌∙◌, subst, arith, inl, inr, append_assoc}
 use Rattle.std.specs.Bool.{Decides}
 use Rattle.std.specs.Cmp.Lexicographic.{pointwise}
-use Rattle.std.specs.List.{list_any}
 use Rattle.std.specs.Option.{option_map}
 use Rattle.std.proofs.lemmas.Bool.Decides.{nat_tests}
-use Rattle.std.proofs.lemmas.List.{append-nil, take_all, length_push, map-append}
+use Rattle.std.proofs.lemmas.List.{append-nil, take_all, length_push}
 use Rattle.std.proofs.lemmas.List.Sums.{count_by_more_no, count_by_more_yes}
 use Rattle.std.proofs.lemmas.Option.{slice_get-map, get_or_from_slice_get}
 use Rattle.std.proofs.lemmas.Slice.Eq.{slice_eq-Decides}
@@ -16,9 +15,8 @@ use Rattle.pc_store.specs.Sets.{IsIdAt, has}
 use Rattle.pc_apply.specs.declared.step.Step.{Step}
 use Rattle.pc_apply.specs.declared.step.Steps.{Steps}
 use Rattle.pc_apply.specs.Counting.{count_of}
-use Rattle.pc_apply.specs.Levels.{is_over}
 use Rattle.pc_apply.specs.Lists.{IsWith, ListsAt, Grows, CountsIn, IsSplit, IsStep, HasSteps}
-use Rattle.pc_apply.proofs.LevelLemmas.{last_or_before, still, past}
+use Rattle.pc_apply.proofs.LevelLemmas.{last_or_before, still}
 
 -- equality of ids
 abbrev same_id : Id → Id → Bool

@@ -1,7 +1,6 @@
 use Rattle.std.proofs.Common.{◌≡◌, ◌<◌, ◌∙◌, sym, ap, subst, ◌+◌, List, ℕ, Some, length, get_or, slice_index, arith, []}
 use Rattle.std.specs.Option.{option_eq}
 use Rattle.std.proofs.lemmas.Option.{slice_get-get_or}
-use Rattle.pc_store.specs.Sets.{domains_of}
 use Rattle.pc_apply.specs.declared.step.Step.{Step}
 use Rattle.pc_apply.specs.Lists.{HasSteps, IsStep}
 use Rattle.pc_apply.specs.Quotas.{quotas_at}

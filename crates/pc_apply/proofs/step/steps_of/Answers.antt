@@ -1,4 +1,4 @@
-use Rattle.std.proofs.Common.{[], List, ◌+◌, ◌<◌, ◌∙◌, length, slice_index_or, All, sym, subst, arith}
+use Rattle.std.proofs.Common.{[], List, ◌+◌, ◌<◌, length, slice_index_or, All, sym, subst, arith}
 use Rattle.std.proofs.lemmas.Option.{slice_get-get_or}
 use Rattle.pc_store.specs.declared.id.Id.{Id}
 use Rattle.pc_store.specs.Sets.{IsIdAt}
