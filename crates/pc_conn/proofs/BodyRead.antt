@@ -20,7 +20,7 @@ use Rattle.pc_text.specs.Given.{contents_given}
 use Rattle.pc_conn.specs.declared.body.Body.{Body}
 use Rattle.pc_conn.specs.declared.body.Body.TheVariants.{File, Fault, NotBuilt, Cut}
 use Rattle.pc_conn.specs.BodyText.{body_of, body_by, sound_body}
-use Rattle.pc_conn.specs.Reading.{IsStopped, GivesBody, ReadsBody}
+use Rattle.pc_conn.specs.Reading.{IsUnread, GivesBody, ReadsBody}
 
 -- so far so many lines were taken, and with a line feed each they are the text
 pub record BodySoFar (count n : ℕ) (text : List ℕ) (first : Cutter) (rest_then : Option (List ℕ)) (l : Cutter) (rest : Option (List ℕ)) (faults_then faults : ℕ) (aside_then aside : Aside) : Type 0 where
@@ -153,16 +153,23 @@ body_read count n text first rest_then l rest faults_then faults aside_then asid
 pub body_stopped : (count n : ℕ) (text : List ℕ) (first : Cutter) (rest_then : Option (List ℕ)) (l : Cutter) (rest : Option (List ℕ)) (m : Cutter) (mid : Option (List ℕ)) (faults_then faults : ℕ) (aside_then aside : Aside) (fault : LineFault)
     → BodySoFar count n text first rest_then l rest faults_then faults aside_then aside → n < count
     → l.ended ≡ false
-    → (is_outside_fault fault ≡ false → IfSome (stream l rest) (λ b. Err fault ≡ answer_to l.line_limit (left_to_give l) b))
+    → (l.fault ≡ None → is_outside_fault fault ≡ false → IfSome (stream l rest) (λ b. Err fault ≡ answer_to l.line_limit (left_to_give l) b))
     → stream l rest ≡ prepend_known [] (stream m mid)
     → (fault ≡ ReadFault → HasNoFeed m.kept)
-    → IsStopped count fault (record { cutter = first; rest = rest_then }) (record { cutter = m; rest = mid })
+    → IsUnread count fault (record { cutter = first; rest = rest_then }) (record { cutter = m; rest = mid })
 body_stopped count n text first rest_then l rest m mid faults_then faults aside_then aside fault so_far room going exact read kept = record {
-  taken = so_far.lines;
-  bytes = so_far.bytes;
-  at = record { cutter = l; rest = rest };
-  took = so_far.took;
-  going = false_from_ne_true first.ended (λ h. absurd (both_ways l.ended going (so_far.stays_ended h)));
-  fewer = omega (arith, so_far.size, room);
-  stopped = stopped_at fault l m rest mid going exact read kept;
+  some = omega (arith, room);
+  going = open_then;
+  stopped = λ sound. record {
+    taken = so_far.lines;
+    bytes = so_far.bytes;
+    at = record { cutter = l; rest = rest };
+    took = so_far.took;
+    going = open_then;
+    fewer = omega (arith, so_far.size, room);
+    stopped = stopped_at fault l m rest mid going (exact (so_far.no_fault sound)) read kept;
+  };
 }
+  where
+    open_then : first.ended ≡ false
+    open_then = false_from_ne_true first.ended (λ h. absurd (both_ways l.ended going (so_far.stays_ended h)))

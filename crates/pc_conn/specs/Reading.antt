@@ -35,12 +35,18 @@ pub record IsStopped (count : ℕ) (fault : LineFault) (before after : Moment) :
   pub fewer : length taken < count
   pub stopped : Stopped fault at after
 
--- A text, the end, or a fault. A fault that was told before is told again, of which a clause of its own speaks; want of
--- memory tells nothing.
+-- A fault comes only where there is a line to ask for. A fault that was told before is told again, of which a clause of
+-- its own speaks; another one stops the reading.
+pub record IsUnread (count : ℕ) (fault : LineFault) (before after : Moment) : Type 0 where
+  pub some : 0 < count
+  pub going : before.cutter.ended ≡ false
+  pub stopped : before.cutter.fault ≡ None → IsStopped count fault before after
+
+-- a text, the end, or a fault; want of memory tells nothing
 abbrev pub ReadsBody : ℕ → Result Body BodyFault → Moment → Moment → Type 0
 ReadsBody count (Ok (File file)) before after = GivesBody count (File file) before after
 ReadsBody count (Ok (Fault line kind)) before after = GivesBody count (Fault line kind) before after
 ReadsBody count (Ok (NotBuilt line)) before after = GivesBody count (NotBuilt line) before after
 ReadsBody count (Ok Cut) before after = IsCut count before after
-ReadsBody count (Err (Line fault)) before after = before.cutter.fault ≡ None → IsStopped count fault before after
+ReadsBody count (Err (Line fault)) before after = IsUnread count fault before after
 ReadsBody count (Err NoMemory) before after = Unit {0}

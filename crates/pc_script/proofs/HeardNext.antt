@@ -105,5 +105,5 @@ stopped-body state awaited fault line bytes before mid after e took stop = recor
 
 pub hears_body_fault : (state : State) (awaited : Awaited) (fault : BodyFault) (line bytes : List ℕ) (before mid after : Moment) → heard state line ≡ says.Publish awaited → Took (line ∷ []) bytes before mid
     → mid.cutter.fault ≡ None → ReadsBody awaited.publish.lines (Err fault) mid after → Hears state (Err (end_by_body fault)) before after
-hears_body_fault state awaited (body.Line fault) line bytes before mid after e took sound reads = by_fault state fault before after (stopped-body state awaited fault line bytes before mid after e took (reads sound))
+hears_body_fault state awaited (body.Line fault) line bytes before mid after e took sound reads = by_fault state fault before after (stopped-body state awaited fault line bytes before mid after e took (reads.stopped sound))
 hears_body_fault state awaited body.NoMemory line bytes before mid after e took sound reads = tt

@@ -21,8 +21,8 @@ use std::alloc::Global;
 /// Does the job that the words of the command line name, and gives the exit status.
 ///
 /// `list` reads a product text and writes its listing without choices and bounds, and a line `.`. A line of a product
-/// text has at most 65,536 bytes, and all of it at most 1,048,576. `script` reads lines of commands and writes the answer to each before it
-/// waits for the next; a line has at most 65,536 bytes, and all of them at most 16,777,216.
+/// text has at most 65,536 bytes, and all of it at most 1,048,576. `script` reads lines of commands and writes the
+/// answer to each before it waits for the next; a line has at most 65,536 bytes, and all of them at most 16,777,216.
 pub fn run<S: Source, K: Sink>(
     alloc: Global,
     words: &Vec<Vec<u8>>,

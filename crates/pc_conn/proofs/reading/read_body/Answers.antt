@@ -14,7 +14,7 @@ returns-in_err-line-clause-read g c =
     let so_far = c.loop-taken.invariant.0 in
     let call = c.in_err-line.ensures in
     let going : c.loop-taken.lines.ended ≡ false = grind (arith, nat_tests, c.has_ended.ensures, c.if-has_ended.false) in
-    rw (p.1, p.2) (λ sound. body_stopped _ _ _ _ _ c.loop-taken.lines _ c.next.new.self _ _ _ _ _ _ so_far (grind (arith, nat_tests, c.loop-taken-test.true)) going (call.exact (so_far.no_fault sound)) call.stream (λ is. call.none_kept (ap (λ f. Err f) is)))
+    rw (p.1, p.2) (body_stopped _ _ _ _ _ c.loop-taken.lines _ c.next.new.self _ _ _ _ _ _ so_far (grind (arith, nat_tests, c.loop-taken-test.true)) going call.exact call.stream (λ is. call.none_kept (ap (λ f. Err f) is)))
 
 pub loop-taken-preserved : goal.loop-taken-preserved
 loop-taken-preserved g c =
