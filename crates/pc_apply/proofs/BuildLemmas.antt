@@ -1,7 +1,7 @@
 -- Carrying plans out.
 use Rattle.std.proofs.Common.{◌≡◌, ℕ, zero, suc, ◌+◌, ◌<◌, ◌≤◌, Bool, List, [], ◌∷◌, ◌++◌, take, drop, set, length, get_or, slice_get, slice_index, Some, None, All, refl, sym, ap, ◌∙◌, subst, arith, inl, inr, ◌⊎◌}
 use Rattle.std.proofs.lemmas.List.{take_more, take_all, length_push}
-use Rattle.std.proofs.lemmas.Option.{get_or_from_slice_get, slice_get-get_or}
+use Rattle.std.proofs.lemmas.Option.{slice_get_within, get_or_from_slice_get, slice_get-get_or}
 use Rattle.pc_store.specs.declared.id.Id.{Id}
 use Rattle.pc_store.specs.declared.store.Store.{Store}
 use Rattle.pc_store.specs.Sets.{IsIdAt, has_in, leads, Keeps}
@@ -9,7 +9,7 @@ use Rattle.pc_store.proofs.SetLemmas.{keeps_then}
 use Rattle.pc_apply.specs.declared.plan.Plan.{Plan}
 use Rattle.pc_apply.specs.declared.plan.Plan.TheVariants.{Known, Node}
 use Rattle.pc_apply.specs.Levels.{part, InRange, Picks, CarriedOut, EachCarriedOut}
-use Rattle.pc_apply.proofs.LevelLemmas.{last_or_before, still, past}
+use Rattle.pc_apply.proofs.LevelLemmas.{last_or_before, still}
 
 stands_last : {X : Type 0} (xs : List X) (x : X) → slice_get (xs ++ x ∷ []) (length xs) ≡ Some x
 stands_last [] x = refl
@@ -63,7 +63,7 @@ leads_kept old now layer children keeps all (value ∷ word) = by (slice_get chi
     by : (o : Rattle.std.proofs.Common.Option Id) → slice_get children value ≡ o → has_in now o word ≡ has_in old o word
     by None e = refl
     by (Some id) e =
-        let lt = past children value id e in
+        let lt = slice_get_within children value id e in
         keeps.sets id (subst (IsIdAt old layer) (get_or_from_slice_get children value id id e) (all value id lt)).0 word
 
 id_kept : (old now : Store) (layer : ℕ) (id : Id) → Keeps old now → IsIdAt old layer id → IsIdAt now layer id
@@ -110,11 +110,11 @@ building_more old mid now layer targets count below plans i plan ids id lt read 
           | inl before ↦
               elim (last_or_before (take i plans) plan p place (subst (λ l. slice_get l place ≡ Some p) more at)) [
                 | inl earlier ↦ carried_later old mid now layer targets count below p x keeps (h.done.each place p x earlier before)
-                | inr last ↦ absurd (let l = past ids place x before in let c = h.done.length_is in let e = last.0 in omega arith)
+                | inr last ↦ absurd (let l = slice_get_within ids place x before in let c = h.done.length_is in let e = last.0 in omega arith)
               ]
           | inr last ↦
               elim (last_or_before (take i plans) plan p place (subst (λ l. slice_get l place ≡ Some p) more at)) [
-                | inl earlier ↦ absurd (let l = past (take i plans) place p earlier in let c = h.done.length_is in let e = last.0 in omega arith)
+                | inl earlier ↦ absurd (let l = slice_get_within (take i plans) place p earlier in let c = h.done.length_is in let e = last.0 in omega arith)
                 | inr same ↦
                     subst (λ y. CarriedOut old now layer targets count below p y) (sym last.1)
                     (subst (λ q. CarriedOut old now layer targets count below q id) (sym same.1) (carried_before old mid now layer targets count below plan id h.keeps all range one))

@@ -1,6 +1,8 @@
 -- Planning one value and one state more.
 use Rattle.std.proofs.Common.{◌≡◌, ℕ, zero, suc, ◌+◌, ◌<◌, ◌≤◌, Bool, true, false, List, [], ◌∷◌, ◌++◌, take, drop, length, get_or, slice_get, slice_index, Some, refl, sym, ap, ◌∙◌, subst, arith, inl, inr, ◌⊎◌, if◌then◌else◌, append_assoc, length-append}
 use Rattle.std.specs.List.{list_any}
+use Rattle.std.proofs.lemmas.List.Folds.{list_any_at}
+use Rattle.std.proofs.lemmas.Option.{slice_get_within, get_or_from_slice_get}
 use Rattle.std.proofs.lemmas.List.{append-nil, take_more, take_all, take-append-le, drop-append-le, length-drop, length_push}
 use Rattle.pc_store.specs.declared.store.Store.{Store}
 use Rattle.pc_store.specs.Sets.{domains_of}
@@ -20,12 +22,6 @@ still [] ys k x h = absurd cc
 still (z ∷ xs) ys zero x h = h
 still (z ∷ xs) ys (suc k) x h = still xs ys k x h
 
--- a place at which something stands is within the list
-pub past : {X : Type 0} (xs : List X) (k : ℕ) (x : X) → slice_get xs k ≡ Some x → k < length xs
-past [] k x h = absurd cc
-past (y ∷ xs) zero x h = omega arith
-past (y ∷ xs) (suc k) x h = let rest = past xs k x h in omega arith
-
 -- with one more the list goes on
 with_more : {State : Type 0} (same : State → State → Bool) (states : List State) (state : State) → (more : List State) × (with_state same states state ≡ states ++ more)
 with_more {State} same states state = by (list_any (same state) states)
@@ -33,6 +29,12 @@ with_more {State} same states state = by (list_any (same state) states)
     by : (b : Bool) → (more : List State) × ((if b then states else states ++ state ∷ []) ≡ states ++ more)
     by true = ([], sym (append-nil states))
     by false = (state ∷ [], refl)
+
+-- a state that is there is not put there again
+pub with_there : {State : Type 0} (same : State → State → Bool) (states : List State) (state other : State) (place : ℕ) → slice_get states place ≡ Some other → same state other ≡ true → with_state same states state ≡ states
+with_there same states state other place at is =
+    let there = list_any_at (same state) states place other (slice_get_within states place other at) (ap (same state) (get_or_from_slice_get states place other other at) ∙ is) in
+    ap (λ (b : Bool). if b then states else states ++ state ∷ []) there
 
 with_all_at : {State : Type 0} (same : State → State → Bool) (IsAt : State → Type 0) (states : List State) (state : State) → AllAt IsAt states → IsAt state → AllAt IsAt (with_state same states state)
 with_all_at {State} same IsAt states state h one = by (list_any (same state) states)
@@ -146,10 +148,10 @@ each_fits_more {State} store layer question next_question states i state old bel
     more = take_more states i state lt ∙ ap (λ s. take i states ++ s ∷ []) (sym read)
 
     within_plans : (place : ℕ) (pl : Plan) → slice_get plans place ≡ Some pl → place ≡ length plans → ⊥
-    within_plans place pl at end = let lt = past plans place pl at in omega arith
+    within_plans place pl at end = let lt = slice_get_within plans place pl at in omega arith
 
     within_states : (place : ℕ) (s : State) → slice_get (take i states) place ≡ Some s → place ≡ length (take i states) → ⊥
-    within_states place s at end = let lt = past (take i states) place s at in omega arith
+    within_states place s at end = let lt = slice_get_within (take i states) place s at in omega arith
 
 pub each_fits_none : {State : Type 0} (store : Store) (layer : ℕ) (question next_question : Question State) → EachFits store layer question next_question [] [] [] []
 each_fits_none store layer question next_question = record { count = refl; each = λ place state plan at. absurd cc; all_at = λ place state at. absurd cc }

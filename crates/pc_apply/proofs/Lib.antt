@@ -1,6 +1,9 @@
 pub mod BuildLemmas
+pub mod CountLemmas
 pub mod LevelLemmas
 pub mod ListLemmas
 pub mod PairLemmas
 pub mod ProductLemmas
 pub mod QuotaLemmas
+pub mod SplitLemmas
+pub mod StepLemmas

@@ -2,7 +2,7 @@
 use Rattle.std.proofs.Common.{◌≡◌, ℕ, zero, suc, ◌+◌, ◌<◌, ◌≤◌, nat_lt, Bool, true, false, ◌&&◌, List, [], ◌∷◌, ◌++◌, take, drop, length, get_or, slice_get, slice_index, Some, None, Result, Ok, Err, IfOk, All, refl, sym, ap, ◌∙◌, subst, arith, inl, inr, ◌⊎◌}
 use Rattle.std.proofs.lemmas.Bool.Decides.{nat_tests}
 use Rattle.std.proofs.lemmas.List.{take_more, length_push, length-take-le, drop_more, length-drop}
-use Rattle.std.proofs.lemmas.Option.{slice_get-get_or, slice_get_cases}
+use Rattle.std.proofs.lemmas.Option.{slice_get_past, slice_get_within, slice_get-get_or, slice_get_cases}
 use Rattle.pc_diagram.specs.Words.{is_word}
 use Rattle.pc_store.specs.declared.id.Id.{Id}
 use Rattle.pc_store.specs.declared.store.Store.{Store}
@@ -11,7 +11,7 @@ use Rattle.pc_store.proofs.SetLemmas.{keeps_then}
 use Rattle.pc_apply.specs.declared.plan.Plan.{Plan}
 use Rattle.pc_apply.specs.declared.plan.Plan.TheVariants.{Known, Node}
 use Rattle.pc_apply.specs.Levels.{Question, is_over, Answers, part, LeadsFrom, Fits, EachFits, EachAnswers, InRange, IsOver, CarriedOut, EachCarriedOut}
-use Rattle.pc_apply.proofs.LevelLemmas.{last_or_before, past, read_stands}
+use Rattle.pc_apply.proofs.LevelLemmas.{last_or_before, read_stands}
 
 pub answers_none : {State : Type 0} (first now : Store) (layer : ℕ) (question : Question State) → EachAnswers first now layer question [] []
 answers_none first now layer question = record { count = refl; each = λ place state id at. absurd cc }
@@ -26,11 +26,11 @@ answers_more first now layer question states i state ids id lt read h one = reco
         | inl before ↦
             elim (last_or_before (take i states) state t place (subst (λ l. slice_get l place ≡ Some t) more at)) [
               | inl earlier ↦ h.each place t x earlier before
-              | inr last ↦ absurd (let l = past ids place x before in let c = h.count in let e = last.0 in omega arith)
+              | inr last ↦ absurd (let l = slice_get_within ids place x before in let c = h.count in let e = last.0 in omega arith)
             ]
         | inr last ↦
             elim (last_or_before (take i states) state t place (subst (λ l. slice_get l place ≡ Some t) more at)) [
-              | inl earlier ↦ absurd (let l = past (take i states) place t earlier in let c = h.count in let e = last.0 in omega arith)
+              | inl earlier ↦ absurd (let l = slice_get_within (take i states) place t earlier in let c = h.count in let e = last.0 in omega arith)
               | inr same ↦ subst (λ y. Answers first now layer question t y) (sym last.1) (subst (λ u. Answers first now layer question u id) (sym same.1) one)
             ]
       ];
@@ -67,7 +67,7 @@ range_of first layer question next_question state below targets ids count as_man
       let there : slice_get (part targets from (slice_index (domains_of first) layer)) k ≡ Some (get_or (part targets from count) k d) =
       subst (λ n. slice_get (part targets from n) k ≡ Some (get_or (part targets from count) k d)) width (slice_get-get_or (part targets from count) k d lt) in
       let next = fits.each k (get_or (part targets from count) k d) there in
-      let l = past below (get_or (part targets from count) k d) next.0 next.1 in
+      let l = slice_get_within below (get_or (part targets from count) k d) next.0 next.1 in
       omega arith,
 )
 
@@ -113,7 +113,7 @@ node_words first mid now layer question next_question state below targets from c
           ∙ and_where (is_over first (layer + 1) word) (next_question.asks next.0 word) (question.asks state (value ∷ word)) (λ o. next.2.same word o)
           ∙ ap (λ b. (b && is_over first (layer + 1) word) && question.asks state (value ∷ word)) (sym inside)
       | inr gone ↦
-          let none : slice_get over.children value ≡ None = nothing_past over.children value (let c = over.picked.count in let g = gone.0 in omega arith) in
+          let none : slice_get over.children value ≡ None = slice_get_past over.children value (let c = over.picked.count in let g = gone.0 in omega arith) in
           let outside : nat_lt value (slice_index (domains_of first) layer) ≡ false = past_count value (slice_index (domains_of first) layer) (let w = part_width in let g = gone.0 in omega arith) in
           ap (λ o. has_in mid o word) none ∙ ap (λ b. (b && is_over first (layer + 1) word) && question.asks state (value ∷ word)) (sym outside)
     ]
@@ -123,11 +123,6 @@ node_words first mid now layer question next_question state below targets from c
 
         past_count : (v n : ℕ) → n ≤ v → nat_lt v n ≡ false
         past_count v n l = grind (arith, nat_tests)
-
-        nothing_past : (xs : List Id) (k : ℕ) → length xs ≤ k → slice_get xs k ≡ None
-        nothing_past [] k le = refl
-        nothing_past (x ∷ xs) zero le = absurd (omega arith)
-        nothing_past (x ∷ xs) (suc k) le = nothing_past xs k (omega arith)
 
 -- a plan that was carried out answers its state
 plan_answers : {State : Type 0} (first mid now : Store) (layer : ℕ) (question next_question : Question State) (state : State) (below : List State) (targets : List ℕ) (count : ℕ) (ids : List Id) (id : Id) → layer < length (domains_of first) → count ≡ slice_index (domains_of first) layer → EachAnswers first mid (layer + 1) next_question below ids → Keeps first now →

@@ -28,7 +28,7 @@ pub(crate) fn carry_out_all(
     ensures keeps { Keeps store.old store.new }
 {
     let mut ids = Vec::with_capacity(alloc, plans.len())?;
-    let mut children = Vec::new(alloc);
+    let mut children = Vec::with_capacity(alloc, store.domain(layer) as usize)?;
     for plan in plans {
         ids.push(carry_out(store, layer, *plan, targets, below, &mut children)?)?;
     }

@@ -14,6 +14,7 @@ mod plan;
 mod quota;
 mod quota_level;
 mod quota_product;
+mod split;
 mod states;
 mod step;
 

@@ -3,7 +3,7 @@
 ghost use Rattle.std.specs.Prelude.{◌≡◌, ℕ, List, ◌&&◌, ◌||◌, not as negated, All, IfOk};
 ghost use Rattle.pc_diagram.specs.Words.{is_word};
 ghost use Rattle.pc_store.specs.Sets.{domains_of, IsIdAt, has, Keeps};
-ghost use Rattle.pc_apply.specs.Counting.{is_within};
+ghost use Rattle.pc_apply.specs.Counting.{is_within, AreNodes};
 ghost use Rattle.pc_apply.specs.Pairs.{holds};
 
 use crate::lists::Lists;
@@ -12,7 +12,8 @@ use crate::pair_product::sets_of_pairs;
 use crate::quota::Quota;
 use crate::quota_product::sets_of_quotas;
 use pc_base::NoMemory;
-use pc_store::{Id, Store};
+use pc_store::{Id, Node, Store};
+use std::alloc::Global;
 
 /// The words in both sets of the first layer. Want of memory leaves the store as it was but for more nodes.
 pub fn and(store: &mut Store, a: Id, b: Id) -> Result<Id, NoMemory>
@@ -59,7 +60,8 @@ pub fn at_most(store: &mut Store, most: u32, members: &[Id]) -> Result<Id, NoMem
 {
     let alloc = store.allocator();
     let mut lists = Lists::new(alloc);
-    let list = lists.place(Vec::from_slice(alloc, members)?)?;
+    let nodes = nodes_of(alloc, members)?;
+    let list = lists.place(alloc, nodes.as_slice())?;
     let quota = Quota { most, list };
     let ids = sets_of_quotas(alloc, store, 0, &lists, &[Some(quota)])?;
     Ok(ids[0])
@@ -81,4 +83,15 @@ fn combine(store: &mut Store, operation: Operation, left: Id, right: Id) -> Resu
     };
     let ids = sets_of_pairs(alloc, store, 0, operation, &[pair])?;
     Ok(ids[0])
+}
+
+/// The sets without their layer.
+fn nodes_of(alloc: Global, sets: &[Id]) -> Result<Vec<Node>, NoMemory>
+    ensures { IfOk result (λ nodes. AreNodes sets.now nodes.items) }
+{
+    let mut nodes = Vec::with_capacity(alloc, sets.len())?;
+    for set in sets {
+        nodes.push(set.node())?;
+    }
+    Ok(nodes)
 }

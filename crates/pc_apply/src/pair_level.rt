@@ -88,10 +88,12 @@ fn expand_pair(
     ensures leads { OnOk result ((operation : Operation) → LeadsFrom store.now layer (pairs_at store.now layer operation) (pairs_at store.now (layer + 1) operation) pair below.new.keys targets.new.items (length targets.old.items) (slice_index (domains_of store.now) layer)) }
     ensures more { OnOk result (Planned (HasBoth store.now (layer + 1)) below.old.keys below.new.keys targets.old.items targets.new.items) }
 {
+    let left = store.children(layer, pair.left);
+    let right = store.children(layer, pair.right);
     for value in 0..store.domain(layer) {
         let next = Pair {
-            left: store.child_node(layer, pair.left, value),
-            right: store.child_node(layer, pair.right, value),
+            left: left.node(value),
+            right: right.node(value),
         };
         targets.push(place(below, next)?)?;
     }

@@ -2,7 +2,7 @@
 
 ghost use Rattle.std.specs.Prelude.{◌≡◌, ◌<◌, ◌≤◌, ◌+◌, [], length, IfSome, IfNone, slice_index_or, ◌↔◌, IsTrue};
 ghost use Rattle.pc_store.specs.Sets.{domains_of};
-ghost use Rattle.pc_apply.specs.Counting.{count_of};
+ghost use Rattle.pc_apply.specs.Counting.{count_at};
 ghost use Rattle.pc_apply.specs.Levels.{Answers};
 ghost use Rattle.pc_apply.specs.Lists.{ListsAt};
 ghost use Rattle.pc_apply.specs.Quotas.{IsQuotaOf, is_in_quota, quotas_at};
@@ -47,7 +47,7 @@ impl Quota {
 pub(crate) fn quota_at_end(quota: Option<Quota>, store: &Store, lists: &Lists) -> Id
     requires lists { ListsAt store.now (length (domains_of store.now)) lists.now }
     requires quota { IsQuotaOf lists.now quota }
-    ensures { Answers store.now store.now (length (domains_of store.now)) (quotas_at store.now lists.now) quota result }
+    ensures { Answers store.now store.now (length (domains_of store.now)) (quotas_at store.now (length (domains_of store.now)) lists.now) quota result }
 {
     let is_within = is_within_at_end(quota, store, lists);
     all_or_none(store, store.variables(), is_within)
@@ -57,7 +57,7 @@ pub(crate) fn quota_at_end(quota: Option<Quota>, store: &Store, lists: &Lists) -
 fn is_within_at_end(quota: Option<Quota>, store: &Store, lists: &Lists) -> bool
     requires lists { ListsAt store.now (length (domains_of store.now)) lists.now }
     requires quota { IsQuotaOf lists.now quota }
-    ensures { result ≡ is_in_quota store.now lists.now quota [] }
+    ensures { result ≡ is_in_quota store.now (length (domains_of store.now)) lists.now quota [] }
 {
     match quota {
         Some(quota) => count_at_end(store, lists, quota.list as usize) <= quota.most as usize,
@@ -69,11 +69,12 @@ fn is_within_at_end(quota: Option<Quota>, store: &Store, lists: &Lists) -> bool
 fn count_at_end(store: &Store, lists: &Lists, place: usize) -> usize
     requires lists { ListsAt store.now (length (domains_of store.now)) lists.now }
     requires place { place < length lists.now }
-    ensures { result ≡ count_of store.now (slice_index_or lists.now place []) [] }
+    ensures { result ≡ count_at store.now (length (domains_of store.now)) (slice_index_or lists.now place []) [] }
 {
+    let end = store.variables();
     let mut count = 0usize;
     for set in lists.list(place) {
-        if has_empty_word(store, *set) {
+        if has_empty_word(store, set.at(end)) {
             count += 1;
         }
     }

@@ -9,7 +9,7 @@ ghost use Rattle.pc_apply.specs.Quotas.{IsQuotaOf, quotas_at};
 use crate::lists::Lists;
 use crate::plan::Plan;
 use crate::quota::Quota;
-use crate::states::{number, place};
+use crate::states::{number, place_near};
 use crate::step::NextLists;
 use indexmap::IndexSet;
 use pc_base::NoMemory;
@@ -36,11 +36,11 @@ pub(crate) fn plan_quotas(
     requires inner { layer < length (domains_of store.now) }
     requires steps { HaveSteps store.now layer lists.now next.now.lists next.now.steps.items }
     requires quotas { AllAt (IsQuotaOf lists.now) quotas.now }
-    ensures { IfOk result (λ level. EachFits store.now layer (quotas_at store.now lists.now) (quotas_at store.now next.now.lists) quotas.now level.below.keys level.targets.items level.plans.items) }
+    ensures { IfOk result (λ level. EachFits store.now layer (quotas_at store.now layer lists.now) (quotas_at store.now (layer + 1) next.now.lists) quotas.now level.below.keys level.targets.items level.plans.items) }
 {
     let mut plans = Vec::with_capacity(alloc, quotas.len())?;
-    let mut targets = Vec::new(alloc);
-    let mut below = IndexSet::new(alloc);
+    let mut targets = Vec::with_capacity(alloc, quotas.len())?;
+    let mut below = IndexSet::with_capacity(alloc, quotas.len() + 1)?;
     for quota in quotas {
         plans.push(plan_quota(store, layer, lists, next, *quota, &mut targets, &mut below)?)?;
     }
@@ -65,7 +65,7 @@ fn plan_quota(
     requires steps { HaveSteps store.now layer lists.now next.now.lists next.now.steps.items }
     requires quota { IsQuotaOf lists.now quota }
     requires below { AllAt (IsQuotaOf next.now.lists) below.old.keys }
-    ensures plan { IfOk result (Fits store.now layer (quotas_at store.now lists.now) (quotas_at store.now next.now.lists) quota below.new.keys targets.new.items) }
+    ensures plan { IfOk result (Fits store.now layer (quotas_at store.now layer lists.now) (quotas_at store.now (layer + 1) next.now.lists) quota below.new.keys targets.new.items) }
     ensures more { OnOk result (Planned (IsQuotaOf next.now.lists) below.old.keys below.new.keys targets.old.items targets.new.items) }
 {
     match quota {
@@ -93,13 +93,14 @@ fn expand_quota(
     requires steps { HaveSteps store.now layer lists.now next.now.lists next.now.steps.items }
     requires quota { quota.list < length lists.now }
     requires below { AllAt (IsQuotaOf next.now.lists) below.old.keys }
-    ensures leads { OnOk result (LeadsFrom store.now layer (quotas_at store.now lists.now) (quotas_at store.now next.now.lists) (Some quota) below.new.keys targets.new.items (length targets.old.items) (slice_index (domains_of store.now) layer)) }
+    ensures leads { OnOk result (LeadsFrom store.now layer (quotas_at store.now layer lists.now) (quotas_at store.now (layer + 1) next.now.lists) (Some quota) below.new.keys targets.new.items (length targets.old.items) (slice_index (domains_of store.now) layer)) }
     ensures more { OnOk result (Planned (IsQuotaOf next.now.lists) below.old.keys below.new.keys targets.old.items targets.new.items) }
 {
     let steps = next.steps[quota.list as usize].steps.as_slice();
     for value in 0..store.domain(layer) {
         let left = quota.after(steps[value as usize]);
-        targets.push(place(below, left)?)?;
+        let near = targets.last().copied();
+        targets.push(place_near(below, near, left)?)?;
     }
     Ok(())
 }

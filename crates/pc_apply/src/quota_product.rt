@@ -26,7 +26,7 @@ pub(crate) fn sets_of_quotas(
     requires layer { layer ≤ length (domains_of store.old) }
     requires lists { ListsAt store.old layer lists.now }
     requires quotas { AllAt (IsQuotaOf lists.now) quotas.now }
-    ensures ids { IfOk result (λ ids. EachAnswers store.old store.new layer (quotas_at store.old lists.now) quotas.now ids.items) }
+    ensures ids { IfOk result (λ ids. EachAnswers store.old store.new layer (quotas_at store.old layer lists.now) quotas.now ids.items) }
     ensures keeps { Keeps store.old store.new }
 {
     if layer == store.variables() {
@@ -54,7 +54,7 @@ fn ends_of_quotas(
 ) -> Result<Vec<Id>, NoMemory>
     requires lists { ListsAt store.now (length (domains_of store.now)) lists.now }
     requires quotas { AllAt (IsQuotaOf lists.now) quotas.now }
-    ensures { IfOk result (λ ids. EachAnswers store.now store.now (length (domains_of store.now)) (quotas_at store.now lists.now) quotas.now ids.items) }
+    ensures { IfOk result (λ ids. EachAnswers store.now store.now (length (domains_of store.now)) (quotas_at store.now (length (domains_of store.now)) lists.now) quotas.now ids.items) }
 {
     let mut ids = Vec::with_capacity(alloc, quotas.len())?;
     for quota in quotas {

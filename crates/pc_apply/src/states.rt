@@ -19,6 +19,26 @@ pub(crate) fn place<S: Eq + Hash + Drop>(
     number(place)
 }
 
+/// The same for a state that may stand at a place that is known, such as that of the state before: there it is found
+/// without its hash.
+pub(crate) fn place_near<S: Eq + Hash + Drop>(
+    states: &mut IndexSet<S>,
+    near: Option<u32>,
+    state: S,
+) -> Result<u32, NoMemory>
+    ensures stands { IfOk result (λ n. StandsFor S.eq states.new.keys n state) }
+    ensures keys { OnOk result (states.new.keys ≡ with_state S.eq states.old.keys state) }
+{
+    if let Some(near) = near {
+        if let Some(other) = states.get_index(near as usize) {
+            if state == *other {
+                return Ok(near);
+            }
+        }
+    }
+    place(states, state)
+}
+
 /// A place as a number of 32 bits.
 pub(crate) fn number(place: usize) -> Result<u32, NoMemory>
     ensures { IfOk result (λ n. n ≡ place) }

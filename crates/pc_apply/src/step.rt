@@ -1,12 +1,13 @@
 //! What lists of sets lead to after each value.
 
-ghost use Rattle.std.specs.Prelude.{◌≡◌, ◌<◌, ◌≤◌, ◌+◌, ◌^◌, length, slice_index, All, IfOk, OnOk};
-ghost use Rattle.pc_store.specs.Sets.{domains_of, IsIdAt};
-ghost use Rattle.pc_apply.specs.Lists.{ListsAt, IsSplit, CountsIn, IsStep, HasSteps, HaveSteps, Grows};
+ghost use Rattle.std.specs.Prelude.{◌≡◌, ◌<◌, ◌+◌, length, All, IfOk, IfSome, OnOk};
+ghost use Rattle.pc_store.specs.Sets.{domains_of, IsNodeAt};
+ghost use Rattle.pc_apply.specs.Lists.{ListsAt, AreRows, IsBefore, HasSteps, HaveSteps, Grows};
 
 use crate::lists::Lists;
+use crate::split::Split;
 use pc_base::NoMemory;
-use pc_store::{Id, Store};
+use pc_store::{Children, Node, Store};
 use std::alloc::Global;
 
 /// What a list of sets leads to after a value: so many of its sets then have every word, and those that have some words
@@ -28,13 +29,6 @@ pub(crate) struct Steps {
 pub(crate) struct NextLists {
     pub steps: Vec<Steps>,
     pub lists: Lists,
-}
-
-/// The sets of a list after a value: so many have every word, and these have some words and not all.
-#[derive(Debug, Drop)]
-struct Split {
-    full: usize,
-    rest: Vec<Id>,
 }
 
 /// What the lists of a layer before the last lead to.
@@ -85,65 +79,68 @@ fn steps_of_list(
     alloc: Global,
     store: &Store,
     layer: u32,
-    sets: &[Id],
+    sets: &[Node],
     below: &mut Lists,
 ) -> Result<Steps, NoMemory>
     requires inner { layer < length (domains_of store.now) }
     requires few { layer < 64 }
-    requires sets { All (IsIdAt store.now layer) sets.now }
+    requires sets { All (IsNodeAt store.now layer) sets.now }
     requires below { ListsAt store.now (layer + 1) below.old }
     ensures steps { IfOk result (HasSteps store.now layer sets.now below.new) }
     ensures more { OnOk result (Grows store.now (layer + 1) below.old below.new) }
 {
-    let mut steps = Vec::with_capacity(alloc, store.domain(layer) as usize)?;
-    for value in 0..store.domain(layer) {
-        let split = split_after(alloc, store, layer, sets, value)?;
-        let full = split.full;
-        let list = below.place(split.rest)?;
-        steps.push(Step { full, list })?;
-    }
-    Ok(Steps { steps })
-}
-
-/// The sets of a list after a value.
-fn split_after(
-    alloc: Global,
-    store: &Store,
-    layer: u32,
-    sets: &[Id],
-    value: u32,
-) -> Result<Split, NoMemory>
-    requires inner { layer < length (domains_of store.now) }
-    requires few { layer < 64 }
-    requires in_range { value < slice_index (domains_of store.now) layer }
-    requires sets { All (IsIdAt store.now layer) sets.now }
-    ensures { IfOk result (λ split. IsSplit store.now layer sets.now value split.full split.rest.items) }
-{
+    let rows = rows_of(alloc, store, layer, sets)?;
     let mut split = Split {
         full: 0,
         rest: Vec::with_capacity(alloc, sets.len())?,
     };
-    for set in sets {
-        split.count_in(store, layer + 1, store.child(*set, value))?;
+    let mut steps = Vec::with_capacity(alloc, store.domain(layer) as usize)?;
+    for value in 0..store.domain(layer) {
+        let step = match step_before(rows.as_slice(), value, steps.as_slice()) {
+            Some(step) => step,
+            None => {
+                split.count(store, layer + 1, rows.as_slice(), value)?;
+                let list = below.place(alloc, split.rest.as_slice())?;
+                Step {
+                    full: split.full,
+                    list,
+                }
+            }
+        };
+        steps.push(step)?;
     }
-    Ok(split)
+    Ok(Steps { steps })
 }
 
-impl Split {
-    /// Counts one more set in.
-    fn count_in(&mut self, store: &Store, layer: u32, set: Id) -> Result<(), NoMemory>
-        requires layer { layer ≤ length (domains_of store.now) }
-        requires room { self.old.full + 1 < 2 ^ 64 }
-        requires rest { All (IsIdAt store.now layer) self.old.rest.items }
-        requires one { IsIdAt store.now layer set }
-        ensures counted { OnOk result (CountsIn store.now layer self.old.full self.old.rest.items set self.new.full self.new.rest.items) }
-        ensures few { OnOk result (self.new.full ≤ self.old.full + 1) }
-    {
-        if store.same_set(set, store.full(layer)) {
-            self.full += 1;
-        } else if !store.same_set(set, store.empty(layer)) {
-            self.rest.push(set)?;
+/// The step of the value before, if all sets go on with the same after both. Most values of a variable are alike.
+fn step_before(rows: &[Children<'_>], value: u32, steps: &[Step]) -> Option<Step>
+    requires width { All (λ row. value < length row) rows.now }
+    requires steps { length steps.now ≡ value }
+    ensures { IfSome result (λ step. IsBefore rows.now value steps.now step) }
+{
+    let before = value.checked_sub(1)?;
+    for row in rows {
+        if row.node(before) != row.node(value) {
+            return None;
         }
-        Ok(())
     }
+    Some(steps[before as usize])
+}
+
+/// What each set of a list goes on with.
+fn rows_of<'a>(
+    alloc: Global,
+    store: &'a Store,
+    layer: u32,
+    sets: &[Node],
+) -> Result<Vec<Children<'a>>, NoMemory>
+    requires inner { layer < length (domains_of store.now) }
+    requires sets { All (IsNodeAt store.now layer) sets.now }
+    ensures { IfOk result (λ rows. AreRows store.now layer sets.now rows.items) }
+{
+    let mut rows = Vec::with_capacity(alloc, sets.len())?;
+    for set in sets {
+        rows.push(store.children(layer, *set))?;
+    }
+    Ok(rows)
 }

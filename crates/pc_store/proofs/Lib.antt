@@ -1,3 +1,4 @@
+pub mod ChildLemmas
 pub mod EachLemmas
 pub mod GrowthLemmas
 pub mod LayerLemmas

@@ -1,5 +1,5 @@
 -- The sets of words that a store keeps.
-use Rattle.std.specs.Prelude.{◌≡◌, ℕ, ◌<◌, ◌≤◌, List, [], ◌∷◌, Bool, false, Option, None, Some, length, map, drop, slice_get}
+use Rattle.std.specs.Prelude.{◌≡◌, ℕ, ◌+◌, ◌<◌, ◌≤◌, List, [], ◌∷◌, Bool, false, Option, None, Some, length, map, drop, slice_get, slice_index}
 use Rattle.pc_store.specs.declared.id.Id.{Id}
 use Rattle.pc_store.specs.declared.id.Node.{Node}
 use Rattle.pc_store.specs.declared.layer.Layer.{Layer}
@@ -25,6 +25,10 @@ IsId store id = (id.layer ≤ length store) × (id.node < node_count (drop id.la
 abbrev pub IsIdAt : List Layer → ℕ → Id → Type 0
 IsIdAt store layer id = IsId store id × (layer_of id ≡ layer)
 
+-- a node of one layer of a store
+abbrev pub IsNodeAt : List Layer → ℕ → Node → Type 0
+IsNodeAt store layer node = IsIdAt store layer (id_at layer node)
+
 -- the set of an id has a word
 unfoldable pub has : List Layer → Id → List ℕ → Bool
 has store id word = accepts (drop id.layer store) id.node word
@@ -48,3 +52,9 @@ has_in store (Some id) word = has store id word
 abbrev pub leads : List Layer → List Id → List ℕ → Bool
 leads store children [] = false
 leads store children (value ∷ word) = has_in store (slice_get children value) word
+
+-- what the words of a set go on with after each value of its layer
+pub record AreChildren (store : List Layer) (layer : ℕ) (node : Node) (children : List Node) : Type 0 where
+  pub count : length children ≡ slice_index (domains_of store) layer
+  pub nodes : (value : ℕ) (child : Node) → slice_get children value ≡ Some child → IsNodeAt store (layer + 1) child
+  pub sets : (value : ℕ) (child : Node) → slice_get children value ≡ Some child → (word : List ℕ) → has store (id_at (layer + 1) child) word ≡ has store (id_at layer node) (value ∷ word)

@@ -3,12 +3,14 @@
 //! of nodes of its smallest diagram.
 #![tactic(auto)]
 
+mod children;
 mod id;
 mod layer;
 mod size;
 mod store;
 mod table;
 
+pub use children::Children;
 pub use id::{Id, Node};
 pub use store::Store;
 

@@ -4,6 +4,7 @@ ghost use Rattle.std.specs.Prelude.{◌≡◌, ◌<◌, ◌≤◌, ◌+◌, ◌�
 ghost use Rattle.pc_diagram.specs.Rests.{size};
 ghost use Rattle.pc_diagram.specs.Words.{is_word};
 
+use crate::children::Children;
 use crate::id::{Id, Node, write_nodes};
 use crate::layer::{Layer, intern_at, new_layers};
 use crate::size::{EMPTY, size_of};
@@ -43,7 +44,7 @@ impl Model for Store {
 impl Store {
     ghost use Rattle.pc_store.specs.declared.id.Id.{Id};
     ghost use Rattle.pc_store.specs.Layered.{IsDomain, new_layer};
-    ghost use Rattle.pc_store.specs.Sets.{domains_of, layer_of, id_at, IsId, IsIdAt, has, leads, SameWords, Keeps};
+    ghost use Rattle.pc_store.specs.Sets.{domains_of, layer_of, IsId, IsIdAt, IsNodeAt, has, leads, AreChildren, SameWords, Keeps};
 
     /// A store over variables that take so many values, from 1 to 64, in order.
     pub fn new(alloc: Global, domains: &[u32]) -> Result<Store, NoMemory>
@@ -143,15 +144,13 @@ impl Store {
         }
     }
 
-    /// The node of what words of a set go on with after a value. The set is given by its layer and its node.
-    pub fn child_node(&self, layer: u32, node: Node, value: u32) -> Node
-        requires known { IsIdAt self.now layer (id_at layer node) }
+    /// What words of a set go on with, for all values at once. The set is given by its layer and its node.
+    pub fn children(&self, layer: u32, node: Node) -> Children<'_>
+        requires known { IsNodeAt self.now layer node }
         requires inner { layer < length (domains_of self.now) }
-        requires in_range { value < slice_index (domains_of self.now) layer }
-        ensures is_id { IsIdAt self.now (layer + 1) (id_at (layer + 1) result) }
-        ensures set { (word : List ℕ) → has self.now (id_at (layer + 1) result) word ≡ has self.now (id_at layer node) (value ∷ word) }
+        ensures { AreChildren self.now layer node result }
     {
-        self.child(node.at(layer), value).node()
+        Children::new(self.layers[layer as usize].table.row(node.number as usize))
     }
 
     /// The size of a set: how many different non-empty rests its beginnings have, from the empty one to whole words. It

@@ -10,8 +10,8 @@ use Rattle.pc_apply.proofs.quota_level.plan_quotas.Goals as goal
 pub loop-quota-preserved : goal.loop-quota-preserved
 loop-quota-preserved c =
     let store = c.args.store.now in
-    let question = quotas_at store c.args.lists.now in
-    let next_question = quotas_at store c.args.next.now.lists in
+    let question = quotas_at store c.args.layer c.args.lists.now in
+    let next_question = quotas_at store (c.args.layer + 1) c.args.next.now.lists in
     let quotas = c.args.quotas.now in
     let i = c.loop-quota.quota-index in
     let quota : Option Quota = get_or quotas i None in
@@ -27,4 +27,4 @@ returns c =
     let i = c.loop-quota.quota-index in
     let past = c.loop-quota-test.false in
     let all : length quotas ≤ i = omega arith in
-    subst (λ (qs : List (Option Quota)). EachFits store c.args.layer (quotas_at store c.args.lists.now) (quotas_at store c.args.next.now.lists) qs c.loop-quota.below.keys c.loop-quota.targets.items c.loop-quota.plans.items) (take_all i quotas all) c.loop-quota.invariant
+    subst (λ (qs : List (Option Quota)). EachFits store c.args.layer (quotas_at store c.args.layer c.args.lists.now) (quotas_at store (c.args.layer + 1) c.args.next.now.lists) qs c.loop-quota.below.keys c.loop-quota.targets.items c.loop-quota.plans.items) (take_all i quotas all) c.loop-quota.invariant

@@ -12,7 +12,7 @@ pub loop-quota-preserved : goal.loop-quota-preserved
 loop-quota-preserved c =
     let store = c.args.store.now in
     let end = length (domains_of store) in
-    let question = quotas_at store c.args.lists.now in
+    let question = quotas_at store (length (domains_of store)) c.args.lists.now in
     let quotas = c.args.quotas.now in
     let i = c.loop-quota.quota-index in
     let quota : Option Quota = get_or quotas i None in
@@ -27,4 +27,4 @@ returns c =
     let i = c.loop-quota.quota-index in
     let past = c.loop-quota-test.false in
     let all : length quotas ≤ i = omega arith in
-    subst (λ (qs : List (Option Quota)). EachAnswers store store (length (domains_of store)) (quotas_at store c.args.lists.now) qs c.loop-quota.ids.items) (take_all i quotas all) c.loop-quota.invariant
+    subst (λ (qs : List (Option Quota)). EachAnswers store store (length (domains_of store)) (quotas_at store (length (domains_of store)) c.args.lists.now) qs c.loop-quota.ids.items) (take_all i quotas all) c.loop-quota.invariant

@@ -1,7 +1,7 @@
 use Rattle.std.proofs.Common.{[], List, ◌+◌, ◌<◌, length, slice_index_or, All, sym, subst, arith}
 use Rattle.std.proofs.lemmas.Option.{slice_get-get_or}
-use Rattle.pc_store.specs.declared.id.Id.{Id}
-use Rattle.pc_store.specs.Sets.{IsIdAt}
+use Rattle.pc_store.specs.declared.id.Node.{Node}
+use Rattle.pc_store.specs.Sets.{IsNodeAt}
 use Rattle.pc_apply.specs.declared.step.Steps.{Steps}
 use Rattle.pc_apply.proofs.ListLemmas.{AllStepped, all_stepped_more}
 use Rattle.pc_apply.proofs.step.steps_of.Goals as goal
@@ -14,7 +14,7 @@ steps_of_list-requires-clause-sets c =
     let high = c.loop-place.auto.place-end in
     let count = c.len-place-end.ensures in
     let inside : place < length lists = omega arith in
-    subst (All (IsIdAt c.args.store.now c.args.layer)) (sym {A = List Id} c.list.ensures) (c.requires.lists place (slice_index_or lists place []) (slice_get-get_or lists place [] inside))
+    subst (All (IsNodeAt c.args.store.now c.args.layer)) (sym {A = List Node} c.list.ensures) (c.requires.lists place (slice_index_or lists place []) (slice_get-get_or lists place [] inside))
 
 pub loop-place-preserved : goal.loop-place-preserved
 loop-place-preserved c =

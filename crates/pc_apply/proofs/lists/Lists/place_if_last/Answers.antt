@@ -1,7 +1,7 @@
 use Rattle.std.proofs.Common.{◌≡◌, ◌<◌, ◌∙◌, [], List, Some, ap, sym, length, arith}
 use Rattle.std.proofs.lemmas.Grind.{common_steps}
 use Rattle.std.proofs.lemmas.Option.{slice_get-get_or}
-use Rattle.pc_store.specs.declared.id.Id.{Id}
+use Rattle.pc_store.specs.declared.id.Node.{Node}
 use Rattle.pc_apply.proofs.ListLemmas.{lists_equal}
 use Rattle.pc_apply.proofs.lists.Lists.place_if_last.Goals as goal
 
@@ -12,4 +12,4 @@ returns-then-eq c =
     let count = c.len.ensures in
     let inside : place < length c.args.self.now = grind (arith, common_steps) in
     let same : c.list.result.now ≡ c.args.list.now = lists_equal c.list.result.now c.args.list.now c.eq.result c.eq.ensures c.if-eq.true in
-    slice_get-get_or c.args.self.now place [] inside ∙ ap Some (sym {A = List Id} c.list.ensures ∙ same)
+    slice_get-get_or c.args.self.now place [] inside ∙ ap Some (sym {A = List Node} c.list.ensures ∙ same)
