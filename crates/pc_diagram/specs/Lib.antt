@@ -1,10 +1,15 @@
-pub mod Bike
 pub mod Best
+pub mod Bike
+pub mod BikeDiagram
 pub mod Bounds
 pub mod Choices
 pub mod Costs
+pub mod DiagramFaults
+pub mod DiagramShape
 pub mod Fitting
+pub mod Levels
 pub mod Listing
+pub mod Paths
 pub mod Priced
 pub mod Rests
 pub mod Words

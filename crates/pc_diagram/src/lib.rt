@@ -9,10 +9,15 @@ mod choice;
 mod choices;
 mod costing;
 mod costs;
+mod diagram_fault;
+mod diagram_laws;
+mod flaw;
 mod laws;
 mod listed;
 mod matching;
+mod place;
 mod priced;
+mod raw_diagram;
 mod side;
 mod valid_values;
 mod which;
@@ -24,12 +29,15 @@ pub use choice::Choice;
 pub use choices::Choices;
 pub use costing::{cost, cost_pair, is_priced};
 pub use costs::{CostPair, Costs};
+pub use diagram_fault::DiagramFault;
+pub use diagram_laws::bikes_have_a_diagram;
 pub use laws::{
     best_is_the_first_unbeaten, bikes_are_listed, chosen_has_a_value, listing_has_the_valid_values,
     sizes_over_two_variables, sums_are_small,
 };
 pub use listed::{Listed, Listing};
 pub use matching::{extends, fitting, within};
+pub use raw_diagram::RawDiagram;
 pub use side::Side;
 pub use valid_values::listing;
 pub use which::Which;

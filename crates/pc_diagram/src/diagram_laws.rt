@@ -1,0 +1,21 @@
+//! Laws of diagrams. Each function's contract is a law; nothing calls them.
+
+ghost use Rattle.std.specs.Prelude.{◌≡◌, Some, None};
+ghost use Rattle.pc_diagram.specs.declared.diagram_fault.DiagramFault.TheVariants.{Shape, EdgeOut, Dead, Unreached, Twin, Order};
+ghost use Rattle.pc_diagram.specs.Bike.{bikes};
+ghost use Rattle.pc_diagram.specs.BikeDiagram.{bike_diagram, bike_out_of_order, bike_edge_out, bike_dead, bike_unreached, bike_misshapen, twins};
+ghost use Rattle.pc_diagram.specs.DiagramFaults.{first_fault};
+ghost use Rattle.pc_diagram.specs.Paths.{words};
+
+/// The worked example, by evaluation: the diagram of the bikes has their words and no fault, and what is told of tables
+/// that differ from it in one thing.
+pub fn bikes_have_a_diagram()
+    ensures words { words bike_diagram ≡ bikes }
+    ensures canonical { first_fault bike_diagram ≡ None }
+    ensures shape { first_fault bike_misshapen ≡ Some (Shape 2 0) }
+    ensures edge_out { first_fault bike_edge_out ≡ Some (EdgeOut 1 2) }
+    ensures dead { first_fault bike_dead ≡ Some (Dead 2 1) }
+    ensures unreached { first_fault bike_unreached ≡ Some (Unreached 2 1) }
+    ensures twin { first_fault twins ≡ Some (Twin 1 1) }
+    ensures order { first_fault bike_out_of_order ≡ Some (Order 2 0) }
+{}
