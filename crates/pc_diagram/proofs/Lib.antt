@@ -1,7 +1,14 @@
+pub mod AnyLemmas
 pub mod CheaperOrder
 pub mod ChoiceLemmas
 pub mod CostLemmas
+pub mod DiagramLemmas
+pub mod FirstBelow
 pub mod FirstBest
+pub mod LevelLemmas
 pub mod ListingLemmas
 pub mod PricedLemmas
+pub mod RowLemmas
+pub mod ShapeLemmas
+pub mod TurnLemmas
 pub mod WordLemmas

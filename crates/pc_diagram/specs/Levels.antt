@@ -35,3 +35,7 @@ rows l = map (row l) (range_with_len 0 l.size)
 -- the edge of a node for a value, if there is one
 abbrev pub edge : Level → ℕ → ℕ → Option ℕ
 edge l node value = slice_index_or (row l node) value None
+
+-- a level of these parts
+abbrev pub as_level : ℕ → ℕ → ℕ → List (Option ℕ) → Level
+as_level domain size next table = record { domain = domain; size = size; next = next; table = table }

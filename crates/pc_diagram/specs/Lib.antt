@@ -4,8 +4,10 @@ pub mod BikeDiagram
 pub mod Bounds
 pub mod Choices
 pub mod Costs
+pub mod Diagram
 pub mod DiagramFaults
 pub mod DiagramShape
+pub mod Edges
 pub mod Fitting
 pub mod Levels
 pub mod Listing
