@@ -1,20 +1,19 @@
 -- Tables without a fault are those of a canonical diagram.
-use Rattle.std.proofs.Common.{◌≡◌, ◌≢◌, ℕ, zero, suc, ◌+◌, ◌*◌, ◌-◌, ◌<◌, ◌≤◌, ◌==◌, nat_lt, nat_le, nat_eq, Bool, true, false, not, ◌&&◌, ◌||◌, List, [], ◌∷◌, ◌++◌, map, length, take, drop, get_or, is_some, sum, Option, Some, None, option_map, refl, sym, ap, ◌∙◌, subst, arith, length-drop}
-use Rattle.std.specs.Cmp.Lexicographic.{pointwise, pointwise_decides}
-use Rattle.std.specs.List.{list_any, range_with_len, slice_range}
+use Rattle.std.proofs.Common.{◌≡◌, ℕ, zero, suc, ◌+◌, ◌*◌, ◌-◌, ◌<◌, ◌≤◌, ◌==◌, nat_lt, nat_le, nat_eq, Bool, true, false, not, ◌&&◌, ◌||◌, List, [], ◌∷◌, length, take, drop, get_or, is_some, sum, Option, Some, None, option_map, refl, sym, ap, ◌∙◌, arith, length-drop}
+use Rattle.std.specs.Cmp.Lexicographic.{pointwise_decides}
+use Rattle.std.specs.List.{list_any, range_with_len}
 use Rattle.std.specs.Option.{option_eq}
 use Rattle.std.proofs.lemmas.Bool.Decides.{nat_tests}
 use Rattle.std.proofs.lemmas.List.{drop-drop, take-append-drop}
 use Rattle.std.proofs.lemmas.List.Folds.{list_any-append}
 use Rattle.std.proofs.lemmas.List.FromFn.{get_or-map-range_with_len}
 use Rattle.std.proofs.lemmas.List.Sums.{get_or-le-sum_by}
-use Rattle.pc_diagram.specs.declared.diagram_fault.DiagramFault.{DiagramFault}
 use Rattle.pc_diagram.specs.declared.flaw.Flaw.{Flaw}
 use Rattle.pc_diagram.specs.declared.flaw.Flaw.TheVariants.{EdgeOut, Dead, Unreached, Twin, Order}
 use Rattle.pc_diagram.specs.declared.place.Place.{Place}
 use Rattle.pc_diagram.specs.declared.raw_diagram.RawDiagram.{RawDiagram}
 use Rattle.pc_diagram.specs.Diagram.{IsShapedLevel, IsShaped, IsCanonicalLevel, IsCanonical}
-use Rattle.pc_diagram.specs.DiagramFaults.{is_outside, same_edges, leads_out, is_dead, is_unreached, is_twin, met, out_of_turn, flawed_node, layer_of, place_or, flawed_place, fault_at, fault_or, fault_among}
+use Rattle.pc_diagram.specs.DiagramFaults.{is_outside, same_edges, leads_out, is_dead, is_unreached, is_twin, met, flawed_node, layer_of, place_or, flawed_place, fault_at, fault_or, fault_among}
 use Rattle.pc_diagram.specs.Fitting.{is_number}
 use Rattle.pc_diagram.specs.Levels.{Level, level, levels, row}
 use Rattle.pc_diagram.proofs.AnyLemmas.{none_weaker, none_of_range, among_range}
@@ -58,7 +57,7 @@ none_in_rows test d (suc n) table width none =
     ap (list_any test) (sym (take-append-drop d table)) ∙ list_any-append test (take d table) (drop d table)
     ∙ ap (λ b. b || list_any test (drop d table)) (ap (list_any test) (sym first) ∙ none 0 (omega arith)) ∙ rest
 
-same_edges_decides : (xs ys : List (Option ℕ)) → (same_edges xs ys ≡ true → xs ≡ ys) × (xs ≡ ys → same_edges xs ys ≡ true)
+pub same_edges_decides : (xs ys : List (Option ℕ)) → (same_edges xs ys ≡ true → xs ≡ ys) × (xs ≡ ys → same_edges xs ys ≡ true)
 same_edges_decides = pointwise_decides by
   where
     by : (x y : Option ℕ) → (option_eq nat_eq x y ≡ true → x ≡ y) × (x ≡ y → option_eq nat_eq x y ≡ true)

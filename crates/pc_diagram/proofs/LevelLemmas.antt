@@ -1,10 +1,9 @@
 -- The levels of a diagram.
-use Rattle.std.proofs.Common.{◌≡◌, ℕ, suc, ◌+◌, ◌<◌, ◌≤◌, List, [], ◌∷◌, map, length, get_or, drop, drop-cons, add-one, sym, ap, ◌∙◌, arith}
-use Rattle.std.specs.List.{range_with_len}
+use Rattle.std.proofs.Common.{◌≡◌, ℕ, suc, ◌+◌, ◌<◌, ◌≤◌, [], ◌∷◌, length, drop, drop-cons, add-one, sym, ap, ◌∙◌, arith}
 use Rattle.std.proofs.lemmas.List.{drop_all}
 use Rattle.std.proofs.lemmas.List.FromFn.{get_or-map-range_with_len, length-map-range_with_len}
 use Rattle.pc_diagram.specs.declared.raw_diagram.RawDiagram.{RawDiagram}
-use Rattle.pc_diagram.specs.Levels.{Level, level, levels}
+use Rattle.pc_diagram.specs.Levels.{level, levels}
 
 pub length-levels : (raw : RawDiagram) → length (levels raw) ≡ length raw.domains
 length-levels raw = length-map-range_with_len (level raw) 0 (length raw.domains)

@@ -3,12 +3,15 @@ pub mod CheaperOrder
 pub mod ChoiceLemmas
 pub mod CostLemmas
 pub mod DiagramLemmas
+pub mod EqualWords
 pub mod FirstBelow
 pub mod FirstBest
 pub mod LevelLemmas
 pub mod ListingLemmas
+pub mod NoFault
 pub mod PricedLemmas
 pub mod RowLemmas
 pub mod ShapeLemmas
 pub mod TurnLemmas
+pub mod UniqueLemmas
 pub mod WordLemmas

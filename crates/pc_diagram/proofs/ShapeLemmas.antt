@@ -1,5 +1,5 @@
 -- The shape of a diagram's tables.
-use Rattle.std.proofs.Common.{◌≡◌, ℕ, suc, ◌+◌, ◌*◌, ◌<◌, ◌≤◌, ◌==◌, nat_eq, nat_lt, nat_le, Bool, true, false, not, ◌&&◌, ◌||◌, if◌then◌else◌, length, take, sum, get_or, Some, None, refl, sym, ap, ◌∙◌, subst, arith}
+use Rattle.std.proofs.Common.{◌≡◌, ℕ, ◌+◌, ◌*◌, ◌<◌, ◌≤◌, ◌==◌, nat_lt, nat_le, Bool, true, false, not, ◌&&◌, ◌||◌, if◌then◌else◌, length, take, sum, get_or, Some, None, refl, sym, ap, ◌∙◌, subst, arith}
 use Rattle.std.proofs.lemmas.Bool.Decides.{nat_tests}
 use Rattle.std.proofs.lemmas.List.{take_all}
 use Rattle.std.proofs.lemmas.List.Sums.{sum_by-take-le}
@@ -119,3 +119,44 @@ none_misshapen raw h = by (has_lists raw) refl h
     by : (b : Bool) → has_lists raw ≡ b → (if b then first_below (λ layer. not (has_shape raw layer)) (length raw.sizes) else Some 0) ≡ None → IsShaped raw
     by true e none = shaped_all raw (lists raw e) (λ layer lt. shape raw layer (straight (has_shape raw layer) (none_below (λ k. not (has_shape raw k)) (length raw.sizes) none layer lt)))
     by false e none = absurd cc
+
+-- shaped tables have as many lists as they should
+all_lists : (raw : RawDiagram) → IsShaped raw → has_lists raw ≡ true
+all_lists raw h =
+    let n = length raw.domains in
+    together (nat_lt 0 n && nat_le n 64 && length raw.sizes == n + 1) (length raw.edges == n)
+    (together (nat_lt 0 n && nat_le n 64) (length raw.sizes == n + 1) (together (nat_lt 0 n) (nat_le n 64) (is_less 0 n h.some_variables) (is_at_most n 64 h.few_variables)) (is_equal (length raw.sizes) (n + 1) h.layers))
+    (is_equal (length raw.edges) n h.tables)
+
+level_table : (l : Level) → IsShapedLevel l → has_table l ≡ true
+level_table l s =
+    together (nat_lt 0 l.domain && nat_le l.domain 64) (length l.table == l.size * l.domain)
+    (together (nat_lt 0 l.domain) (nat_le l.domain 64) (is_less 0 l.domain s.some_values) (is_at_most l.domain 64 s.few_values))
+    (is_equal (length l.table) (l.size * l.domain) s.width)
+
+layer_table : (raw : RawDiagram) → IsShaped raw → (layer : ℕ) → layer < length raw.domains + 1 → (layer == length raw.domains || has_table (level raw layer)) ≡ true
+layer_table raw h layer lt = by (layer == length raw.domains) refl
+  where
+    by : (b : Bool) → (layer == length raw.domains) ≡ b → (b || has_table (level raw layer)) ≡ true
+    by true e = refl
+    by false e = let small : layer < length raw.domains = grind (arith, nat_tests) in level_table (level raw layer) (h.shaped layer small)
+
+layer_size : (raw : RawDiagram) → IsShaped raw → (layer : ℕ) → layer < length raw.domains + 1 → has_size raw layer ≡ true
+layer_size raw h layer lt = by (layer == 0) refl (layer == length raw.domains) refl
+  where
+    by : (b : Bool) → (layer == 0) ≡ b → (c : Bool) → (layer == length raw.domains) ≡ c → (if b || c then get_or raw.sizes layer 0 == 1 else nat_lt 0 (get_or raw.sizes layer 0)) ≡ true
+    by true e c f = is_equal (get_or raw.sizes layer 0) 1 (ap (λ i. get_or raw.sizes i 0) (equal layer 0 e) ∙ h.root)
+    by false e true f = is_equal (get_or raw.sizes layer 0) 1 (ap (λ i. get_or raw.sizes i 0) (equal layer (length raw.domains) f) ∙ h.terminal)
+    by false e false f = let small : layer < length raw.domains = grind (arith, nat_tests) in is_less 0 (get_or raw.sizes layer 0) (h.shaped layer small).some_nodes
+
+pub shaped_none : (raw : RawDiagram) → IsShaped raw → misshapen_layer raw ≡ None
+shaped_none raw h =
+    ap (λ b. if b then first_below (λ layer. not (has_shape raw layer)) (length raw.sizes) else Some 0) (all_lists raw h)
+    ∙ first_below-none (λ layer. not (has_shape raw layer)) (length raw.sizes)
+    (λ layer lt.
+    let layers = h.layers in
+    let small : layer < length raw.domains + 1 = omega arith in
+    let few = h.few_nodes in
+    let part = sum_by-take-le (λ x. x) raw.sizes (layer + 1) in
+    ap not (together (has_size raw layer && has_room raw layer) (layer == length raw.domains || has_table (level raw layer))
+    (together (has_size raw layer) (has_room raw layer) (layer_size raw h layer small) (is_at_most (sum (take (layer + 1) raw.sizes)) 262144 (omega arith))) (layer_table raw h layer small)))

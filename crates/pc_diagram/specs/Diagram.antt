@@ -1,10 +1,10 @@
 -- Canonical diagrams.
-use Rattle.std.specs.Prelude.{◌≡◌, ◌≢◌, ℕ, ◌+◌, ◌*◌, ◌<◌, ◌≤◌, ◌==◌, nat_eq, true, false, List, length, sum, slice_index, All, is_some}
+use Rattle.std.specs.Prelude.{◌≡◌, ◌≢◌, ℕ, ◌+◌, ◌*◌, ◌<◌, ◌≤◌, true, false, length, sum, slice_index, is_some}
 use Rattle.std.specs.List.{range_with_len, list_any}
 use Rattle.pc_diagram.specs.declared.raw_diagram.RawDiagram.{RawDiagram}
 use Rattle.pc_diagram.specs.DiagramFaults.{is_outside, met}
 use Rattle.pc_diagram.specs.Fitting.{is_number}
-use Rattle.pc_diagram.specs.Levels.{Level, level, levels, row}
+use Rattle.pc_diagram.specs.Levels.{Level, level, row}
 
 -- a variable takes 1 to 64 values, its layer and the next one have some nodes, and its table has an edge for each node
 -- and value

@@ -11,7 +11,7 @@ use Rattle.pc_diagram.specs.declared.place.Place.{Place}
 use Rattle.pc_diagram.specs.declared.raw_diagram.RawDiagram.{RawDiagram}
 use Rattle.pc_diagram.specs.DiagramShape.{first_below, misshapen_layer}
 use Rattle.pc_diagram.specs.Fitting.{is_number}
-use Rattle.pc_diagram.specs.Levels.{Level, levels, row, rows}
+use Rattle.pc_diagram.specs.Levels.{Level, levels, row}
 
 -- an edge leads to none of so many nodes
 abbrev pub is_outside : ℕ → Option ℕ → Bool

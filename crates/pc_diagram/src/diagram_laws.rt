@@ -1,9 +1,11 @@
 //! Laws of diagrams. Each function's contract is a law; nothing calls them.
 
-ghost use Rattle.std.specs.Prelude.{◌≡◌, Some, None};
+ghost use Rattle.std.specs.Prelude.{◌≡◌, ◌↔◌, Some, None};
 ghost use Rattle.pc_diagram.specs.declared.diagram_fault.DiagramFault.TheVariants.{Shape, EdgeOut, Dead, Unreached, Twin, Order};
+ghost use Rattle.pc_diagram.specs.declared.raw_diagram.RawDiagram.{RawDiagram};
 ghost use Rattle.pc_diagram.specs.Bike.{bikes};
 ghost use Rattle.pc_diagram.specs.BikeDiagram.{bike_diagram, bike_out_of_order, bike_edge_out, bike_dead, bike_unreached, bike_misshapen, twins};
+ghost use Rattle.pc_diagram.specs.Diagram.{IsCanonical};
 ghost use Rattle.pc_diagram.specs.DiagramFaults.{first_fault};
 ghost use Rattle.pc_diagram.specs.Paths.{words};
 
@@ -18,4 +20,14 @@ pub fn bikes_have_a_diagram()
     ensures unreached { first_fault bike_unreached ≡ Some (Unreached 2 1) }
     ensures twin { first_fault twins ≡ Some (Twin 1 1) }
     ensures order { first_fault bike_out_of_order ≡ Some (Order 2 0) }
+{}
+
+/// Tables have no fault exactly where they are those of a canonical diagram.
+pub fn canonical_tables_have_no_fault()
+    ensures { (raw : RawDiagram) → (first_fault raw ≡ None) ↔ IsCanonical raw }
+{}
+
+/// Two canonical diagrams over the same domains that have the same words are equal.
+pub fn equal_words_have_one_diagram()
+    ensures { (a b : RawDiagram) → IsCanonical a → IsCanonical b → a.domains ≡ b.domains → words a ≡ words b → a ≡ b }
 {}

@@ -1,5 +1,5 @@
 -- The next node is dead, or none so far is.
-use Rattle.std.proofs.Common.{◌≡◌, true, false, not, is_some, sym, ap, ◌∙◌, below_more, arith}
+use Rattle.std.proofs.Common.{◌≡◌, true, not, is_some, sym, ap, ◌∙◌, below_more}
 use Rattle.std.specs.List.{list_any}
 use Rattle.pc_diagram.specs.DiagramFaults.{is_dead}
 use Rattle.pc_diagram.specs.Levels.{Level, as_level}

@@ -1,5 +1,5 @@
 -- An edge of the next node leads out, or none so far does.
-use Rattle.std.proofs.Common.{◌≡◌, true, false, sym, ap, ◌∙◌, below_more, arith}
+use Rattle.std.proofs.Common.{◌≡◌, true, sym, ap, ◌∙◌, below_more}
 use Rattle.std.specs.List.{list_any}
 use Rattle.pc_diagram.specs.DiagramFaults.{is_outside, leads_out}
 use Rattle.pc_diagram.specs.Levels.{Level, as_level}

@@ -1,5 +1,5 @@
 -- No edge leads to the next node, or one leads to each so far.
-use Rattle.std.proofs.Common.{◌≡◌, ◌<◌, ℕ, Bool, true, false, not, List, length, get_or, map, Option, sym, ap, ◌∙◌, below_more, arith}
+use Rattle.std.proofs.Common.{◌≡◌, ◌<◌, ℕ, Bool, true, not, List, length, get_or, map, Option, sym, ap, ◌∙◌, below_more, arith}
 use Rattle.std.specs.List.{list_any, range_with_len}
 use Rattle.std.proofs.lemmas.List.FromFn.{get_or-map-range_with_len, length-map-range_with_len}
 use Rattle.pc_diagram.specs.DiagramFaults.{is_unreached}

@@ -1,5 +1,5 @@
 -- In the end all edges count.
-use Rattle.std.proofs.Common.{◌≡◌, ℕ, Bool, false, ap, ◌∙◌, arith}
+use Rattle.std.proofs.Common.{ℕ, Bool, false, ap, ◌∙◌}
 use Rattle.std.specs.List.{list_any}
 use Rattle.std.proofs.lemmas.List.{take_all}
 use Rattle.std.proofs.lemmas.List.FromFn.{fill_by_all}

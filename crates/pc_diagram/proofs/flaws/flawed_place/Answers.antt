@@ -1,5 +1,5 @@
 -- The flaw stands at the next level, or at none so far.
-use Rattle.std.proofs.Common.{◌≡◌, ℕ, ◌+◌, drop, Option, Some, None, sym, ap, ◌∙◌, arith}
+use Rattle.std.proofs.Common.{ℕ, ◌+◌, drop, Option, Some, sym, ap, ◌∙◌, arith}
 use Rattle.pc_diagram.specs.declared.place.Place.{Place}
 use Rattle.pc_diagram.specs.DiagramFaults.{layer_of, place_or, flawed_place}
 use Rattle.pc_diagram.specs.Levels.{levels}

@@ -1,5 +1,5 @@
 -- The next layer hasn't the shape of one, or none so far is misshapen.
-use Rattle.std.proofs.Common.{◌≡◌, ◌+◌, ◌<◌, ◌≤◌, ℕ, Bool, true, false, not, if◌then◌else◌, length, take, sum, get_or, Option, Some, None, sym, ap, ◌∙◌, subst, below_more, arith}
+use Rattle.std.proofs.Common.{◌≡◌, ◌+◌, ◌<◌, ◌≤◌, true, not, if◌then◌else◌, length, take, sum, get_or, Some, sym, ap, ◌∙◌, below_more, arith}
 use Rattle.std.proofs.lemmas.List.Sums.{sum_by_more}
 use Rattle.pc_diagram.specs.declared.raw_diagram.RawDiagram.{RawDiagram}
 use Rattle.pc_diagram.specs.DiagramShape.{first_below, has_shape, has_lists, misshapen_layer}

@@ -1,5 +1,5 @@
 -- Tables without a fault are those of a canonical diagram.
-use Rattle.std.proofs.Common.{◌≡◌, None, sym, ◌∙◌}
+use Rattle.std.proofs.Common.{sym, ◌∙◌}
 use Rattle.pc_diagram.proofs.DiagramLemmas.{none_flawed}
 use Rattle.pc_diagram.proofs.ShapeLemmas.{none_misshapen}
 use Rattle.pc_diagram.proofs.diagram.Diagram.check.Goals as goal

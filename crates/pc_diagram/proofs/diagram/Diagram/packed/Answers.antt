@@ -1,5 +1,5 @@
 -- Each table leads to nodes of small numbers, and in the end all tables are there.
-use Rattle.std.proofs.Common.{◌≡◌, ◌<◌, ℕ, false, List, [], length, get_or, take, Option, sym, ap, ◌∙◌, subst, arith}
+use Rattle.std.proofs.Common.{◌<◌, ℕ, List, [], length, Option, sym, ap, ◌∙◌, subst, arith}
 use Rattle.std.specs.List.{list_any}
 use Rattle.std.proofs.lemmas.List.{get_or_read, take_all}
 use Rattle.pc_diagram.specs.declared.raw_diagram.RawDiagram.{RawDiagram}
