@@ -28,7 +28,7 @@ accepts_none [] word = refl
 accepts_none (l ∷ ls) word = refl
 
 -- an edge leads to a node of the next layer
-outside_row : (l : Level) → IsCanonicalLevel l → (node value : ℕ) → is_outside l.next (edge l node value) ≡ false
+pub outside_row : (l : Level) → IsCanonicalLevel l → (node value : ℕ) → is_outside l.next (edge l node value) ≡ false
 outside_row l h node value =
     none_at (is_outside l.next) (row l node) value None
     (ap (list_any (is_outside l.next)) (row-is l node) ∙ none_in_take (is_outside l.next) l.domain (drop (node * l.domain) l.table) (none_in_drop (is_outside l.next) (node * l.domain) l.table h.layered)) refl
@@ -158,7 +158,7 @@ module _ (ls ms : List Level) (na nb : ℕ) (h : IsChain na ls) (k : IsChain nb 
       (λ t g j below_t. same_table xs ys t (omega arith) a.1 b.1 (λ i. s (suc i)) g j below_t)
 
 -- the edge of a node for a value stands in the table
-edge-is : (l : Level) (node value : ℕ) → value < l.domain → edge l node value ≡ get_or l.table (node * l.domain + value) None
+pub edge-is : (l : Level) (node value : ℕ) → value < l.domain → edge l node value ≡ get_or l.table (node * l.domain + value) None
 edge-is l node value lt =
     ap (λ xs. get_or xs value None) (row-is l node) ∙ get_or-take l.domain (drop (node * l.domain) l.table) value None lt ∙ get_or-drop (node * l.domain) l.table value None
 
@@ -191,7 +191,7 @@ same_words_at l m ls ms sl sm ed es s i word = by (nat_lt i (length l.table)) re
 no_turn_missed : (l : Level) → IsCanonicalLevel l → missed_turn 0 l.table ≡ None
 no_turn_missed l h = sym (out_of_turn-met l.table) ∙ ap (out_of_turn 0) h.ordered ∙ out_of_turn-range 0 l.next
 
-reaches : (x : Option ℕ) (node : ℕ) → is_number x node ≡ true → x ≡ Some node
+pub reaches : (x : Option ℕ) (node : ℕ) → is_number x node ≡ true → x ≡ Some node
 reaches None node h = absurd cc
 reaches (Some t) node h = let same : t ≡ node = grind (arith, nat_tests) in ap Some same
 
@@ -210,9 +210,9 @@ same_levels size (l ∷ ls) (m ∷ ms) h k d s =
     let et : l.table ≡ m.table = same_table ls ms l.next m.next h.3 k.3 l.table m.table 0 width h.2.layered k.2.layered at (no_turn_missed l h.2) (no_turn_missed m k.2) (omega arith, omega arith, λ x lt. absurd (omega arith)) in
     let en : l.next ≡ m.next = sym (length-range_with_len 0 l.next) ∙ ap length (sym h.2.ordered ∙ ap met et ∙ k.2.ordered) ∙ length-range_with_len 0 m.next in
     let more = same_levels l.next ls ms h.3 (subst (λ n. IsChain n ms) (sym en) k.3) rest
-      (λ node lt word.
-      let p = one_at (λ target. is_number target node) l.table None (h.2.reached node lt) in
-      let here = reaches (get_or l.table p.0 None) node p.2 in
-      let there : get_or m.table p.0 None ≡ Some node = ap (λ xs. get_or xs p.0 None) (sym et) ∙ here in
-      ap (λ x. accepts ls x word) (sym here) ∙ at p.0 word ∙ ap (λ x. accepts ms x word) there) in
+    (λ node lt word.
+    let p = one_at (λ target. is_number target node) l.table None (h.2.reached node lt) in
+    let here = reaches (get_or l.table p.0 None) node p.2 in
+    let there : get_or m.table p.0 None ≡ Some node = ap (λ xs. get_or xs p.0 None) (sym et) ∙ here in
+    ap (λ x. accepts ls x word) (sym here) ∙ at p.0 word ∙ ap (λ x. accepts ms x word) there) in
     λ i. record { domain = ed i; size = es i; next = en i; table = et i } ∷ more i
