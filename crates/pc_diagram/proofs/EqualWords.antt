@@ -13,7 +13,7 @@ use Rattle.pc_diagram.specs.Words.{is_word}
 use Rattle.pc_diagram.proofs.DiagramLemmas.{row-is}
 use Rattle.pc_diagram.proofs.LevelLemmas.{length-levels, drop-levels, drop-levels-end}
 use Rattle.pc_diagram.proofs.ShapeLemmas.{together}
-use Rattle.pc_diagram.proofs.UniqueLemmas.{IsChain, accepts_none, same_levels}
+use Rattle.pc_diagram.proofs.UniqueLemmas.{IsChain, accepts_none, same_levels, some_word}
 use Rattle.pc_diagram.proofs.WordLemmas.{kept_words-is}
 
 -- the levels of canonical tables, from a variable on
@@ -105,3 +105,17 @@ equal_words a b h k d w =
     let root : node ≡ 0 = omega arith in
     let same = sym (word_accepted a word) ∙ ap (list_any (pointwise nat_eq word)) w ∙ word_accepted b word in
     ap (λ n. accepts (levels a) (Some n) word) root ∙ same ∙ ap (λ n. accepts (levels b) (Some n) word) (sym root)))
+
+-- a word of the tables is one over their domains
+pub over_domains : (raw : RawDiagram) (word : List ℕ) → accepts (levels raw) (Some 0) word ≡ true → is_word raw.domains word ≡ true
+over_domains raw word h = ap (λ d. is_word d word) (sym (domains-levels raw)) ∙ accepts-is_word (levels raw) (Some 0) word h
+
+-- canonical tables have a word
+pub some_words : (raw : RawDiagram) → IsCanonical raw → words raw ≡ [] → ⊥
+some_words raw h none =
+    let one = some_word 1 (levels raw) (chain raw h) 0 (omega arith) in
+    clash (list_any (pointwise nat_eq one.0) (words raw)) (word_accepted raw one.0 ∙ one.1) (ap (list_any (pointwise nat_eq one.0)) none)
+  where
+    clash : (b : Bool) → b ≡ true → b ≡ false → ⊥
+    clash true g k = cc
+    clash false g k = cc

@@ -2,6 +2,7 @@ pub mod AnyLemmas
 pub mod CheaperOrder
 pub mod ChoiceLemmas
 pub mod CostLemmas
+pub mod CountLemmas
 pub mod DiagramLemmas
 pub mod EqualWords
 pub mod FirstBelow

@@ -14,6 +14,10 @@ accepts (l ∷ ls) None word = false
 accepts (l ∷ ls) (Some node) [] = false
 accepts (l ∷ ls) (Some node) (value ∷ word) = accepts ls (edge l node value) word
 
+-- the values of a word are those along a path from the root
+abbrev pub has_word : RawDiagram → List ℕ → Bool
+has_word raw = accepts (levels raw) (Some 0)
+
 -- the words of a diagram: those along the paths from its root, in lexicographic order
 abbrev pub words : RawDiagram → List (List ℕ)
-words raw = filter (accepts (levels raw) (Some 0)) (all_words raw.domains)
+words raw = filter (has_word raw) (all_words raw.domains)

@@ -37,9 +37,7 @@ pub use costing::{cost, cost_pair, is_priced};
 pub use costs::{CostPair, Costs};
 pub use diagram::Diagram;
 pub use diagram_fault::DiagramFault;
-pub use diagram_laws::{
-    bikes_have_a_diagram, canonical_tables_have_no_fault, equal_words_have_one_diagram,
-};
+pub use diagram_laws::{bikes_have_a_diagram, canonical_tables_have_no_fault, equal_words_have_one_diagram, nodes_are_counted_by_rests, words_are_over_the_domains};
 pub use laws::{
     best_is_the_first_unbeaten, bikes_are_listed, chosen_has_a_value, listing_has_the_valid_values,
     sizes_over_two_variables, sums_are_small,
