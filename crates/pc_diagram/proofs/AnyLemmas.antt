@@ -1,6 +1,7 @@
 -- Whether an element of a list passes a test.
 use Rattle.std.proofs.Common.{◌≡◌, ℕ, zero, suc, ◌+◌, ◌<◌, ◌≤◌, ◌==◌, nat_eq, nat_le, nat_lt, Bool, true, false, cond, ◌&&◌, ◌||◌, List, [], ◌∷◌, map, filter, length, get_or, take, drop, refl, sym, ap, ◌∙◌, arith}
 use Rattle.std.specs.List.{list_any, range_with_len}
+use Rattle.std.proofs.lemmas.Bool.{both_ways}
 use Rattle.std.proofs.lemmas.Bool.Decides.{nat_tests}
 
 pub neither : (a b : Bool) → (a || b) ≡ false → (a ≡ false) × (b ≡ false)
@@ -99,9 +100,5 @@ any_kept {X} p q keeps (x ∷ xs) = by (p x) refl (q x) refl (keeps x) (any_kept
   where
     by : (b : Bool) → p x ≡ b → (c : Bool) → q x ≡ c → (p x ≡ true → q x ≡ true) → list_any p (filter q xs) ≡ list_any p xs → list_any p (cond (q x) (x ∷ filter q xs) (filter q xs)) ≡ (p x || list_any p xs)
     by b e true f k rest = ap (λ d. list_any p (cond d (x ∷ filter q xs) (filter q xs))) f ∙ ap (λ d. p x || d) rest
-    by true e false f k rest = absurd (clash (q x) (k e) f)
-      where
-        clash : (d : Bool) → d ≡ true → d ≡ false → ⊥
-        clash true g h = cc
-        clash false g h = cc
+    by true e false f k rest = absurd (both_ways (q x) f (k e))
     by false e false f k rest = ap (λ d. list_any p (cond d (x ∷ filter q xs) (filter q xs))) f ∙ rest ∙ ap (λ d. d || list_any p xs) (sym e)

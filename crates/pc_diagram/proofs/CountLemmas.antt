@@ -3,6 +3,7 @@ use Rattle.std.proofs.Common.{◌≡◌, ℕ, zero, suc, ◌+◌, ◌*◌, ◌-�
 use Rattle.std.specs.Cmp.Lexicographic.{pointwise, lists_equiv}
 use Rattle.std.specs.List.{list_any, range_with_len, IsDistinct, AllByRecursion}
 use Rattle.std.proofs.Math.Nat.{div-lt_iff_lt-mul}
+use Rattle.std.proofs.lemmas.Bool.{both_ways}
 use Rattle.std.proofs.lemmas.Bool.Decides.{nat_tests}
 use Rattle.std.proofs.lemmas.Cmp.{nat_list_eq_equiv}
 use Rattle.std.proofs.lemmas.List.{take-append-drop}
@@ -124,11 +125,7 @@ node_has_words size ls h node lt = by (words_of ls (Some node)) refl
     one = some_word size ls h node lt
 
     by : (words : List (List ℕ)) → words_of ls (Some node) ≡ words → has_words words ≡ true
-    by [] none = let no : list_any (pointwise nat_eq one.0) (words_of ls (Some node)) ≡ false = ap (list_any (pointwise nat_eq one.0)) none in absurd (clash (list_any (pointwise nat_eq one.0) (words_of ls (Some node))) (tell ls (Some node) one.0 ∙ one.1) no)
-      where
-        clash : (b : Bool) → b ≡ true → b ≡ false → ⊥
-        clash true g k = cc
-        clash false g k = cc
+    by [] none = let no : list_any (pointwise nat_eq one.0) (words_of ls (Some node)) ≡ false = ap (list_any (pointwise nat_eq one.0)) none in absurd (both_ways (list_any (pointwise nat_eq one.0) (words_of ls (Some node))) no (tell ls (Some node) one.0 ∙ one.1))
     by (word ∷ words) some = grind (arith, nat_tests)
 
 none_kept : (ls : List Level) → words_of ls None ≡ []
@@ -252,7 +249,7 @@ layer_counted raw h layer le =
     let back = drop layer ls in
     let zeros : 0 + layer ≡ layer = omega arith in
     let lead : Leads 1 front (get_or raw.sizes layer 0) =
-      subst (λ n. Leads n front (get_or raw.sizes layer 0)) h.shape.root (subst (λ i. Leads (get_or raw.sizes 0 0) front (get_or raw.sizes i 0)) zeros (leads_from raw h layer 0 (omega arith))) in
+    subst (λ n. Leads n front (get_or raw.sizes layer 0)) h.shape.root (subst (λ i. Leads (get_or raw.sizes 0 0) front (get_or raw.sizes i 0)) zeros (leads_from raw h layer 0 (omega arith))) in
     let rest_of : ℕ = length raw.domains - layer in
     let chain : IsChain (get_or raw.sizes layer 0) back = chain_from raw h rest_of layer (omega arith) in
     let first : domains front ≡ take layer raw.domains = map-take (λ l. l.domain) layer ls ∙ ap (take layer) (domains-levels raw) in

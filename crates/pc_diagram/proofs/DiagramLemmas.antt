@@ -1,8 +1,9 @@
 -- Tables without a fault are those of a canonical diagram.
-use Rattle.std.proofs.Common.{◌≡◌, ℕ, zero, suc, ◌+◌, ◌*◌, ◌-◌, ◌<◌, ◌≤◌, ◌==◌, nat_lt, nat_le, nat_eq, Bool, true, false, not, ◌&&◌, ◌||◌, List, [], ◌∷◌, length, take, drop, get_or, is_some, sum, Option, Some, None, option_map, refl, sym, ap, ◌∙◌, arith, length-drop}
+use Rattle.std.proofs.Common.{◌≡◌, ℕ, zero, suc, ◌+◌, ◌*◌, ◌-◌, ◌<◌, ◌≤◌, ◌==◌, nat_lt, nat_le, nat_eq, Bool, true, false, ◌&&◌, ◌||◌, List, [], ◌∷◌, length, take, drop, get_or, is_some, sum, Option, Some, None, option_map, refl, sym, ap, ◌∙◌, arith, length-drop}
 use Rattle.std.specs.Cmp.Lexicographic.{pointwise_decides}
 use Rattle.std.specs.List.{list_any, range_with_len}
 use Rattle.std.specs.Option.{option_eq}
+use Rattle.std.proofs.lemmas.Bool.{both_ways}
 use Rattle.std.proofs.lemmas.Bool.Decides.{nat_tests}
 use Rattle.std.proofs.lemmas.List.{drop-drop, take-append-drop}
 use Rattle.std.proofs.lemmas.List.Folds.{list_any-append}
@@ -19,7 +20,7 @@ use Rattle.pc_diagram.specs.Levels.{Level, level, levels, row}
 use Rattle.pc_diagram.proofs.AnyLemmas.{none_weaker, none_of_range, among_range}
 use Rattle.pc_diagram.proofs.FirstBelow.{none_below}
 use Rattle.pc_diagram.proofs.LevelLemmas.{length-levels}
-use Rattle.pc_diagram.proofs.ShapeLemmas.{both, together}
+use Rattle.pc_diagram.proofs.ShapeLemmas.{both, together, straight}
 use Rattle.pc_diagram.proofs.TurnLemmas.{in_turn, met-any}
 
 -- none of these flaws stands: at no level is there such a node
@@ -66,14 +67,6 @@ same_edges_decides = pointwise_decides by
     by (Some x) None = (λ e. absurd cc, λ e. absurd cc)
     by (Some x) (Some y) = (λ e. let same : x ≡ y = grind (arith, nat_tests) in ap Some same, λ e. let same : x ≡ y = cc in grind (arith, nat_tests))
 
-straight : (b : Bool) → not b ≡ false → b ≡ true
-straight true e = refl
-straight false e = absurd cc
-
-clash : (b : Bool) → b ≡ true → b ≡ false → ⊥
-clash true g h = cc
-clash false g h = cc
-
 -- as many nodes are met as there are
 met_count : (l : Level) (m : ℕ) → met l.table ≡ range_with_len 0 m → list_any (is_outside l.next) l.table ≡ false → ((node : ℕ) → node < l.next → list_any (λ target. is_number target node) l.table ≡ true) → m ≡ l.next
 met_count l m is layered reached = by (nat_lt m l.next) refl (nat_lt l.next m) refl
@@ -92,12 +85,12 @@ met_count l m is layered reached = by (nat_lt m l.next) refl (nat_lt l.next m) r
     by true e c f =
         let lt : m < l.next = grind (arith, nat_tests) in
         let yes : (nat_le 0 m && nat_lt m (0 + m)) ≡ true = sym (there m) ∙ reached m lt in
-        absurd (clash (nat_lt m (0 + m)) (both (nat_le 0 m) (nat_lt m (0 + m)) yes).1 (let same : 0 + m ≡ m = omega arith in grind (arith, nat_tests)))
+        absurd (both_ways (nat_lt m (0 + m)) (let same : 0 + m ≡ m = omega arith in grind (arith, nat_tests)) (both (nat_le 0 m) (nat_lt m (0 + m)) yes).1)
     by false e true f =
         let no : (nat_le 0 l.next && nat_lt l.next (0 + m)) ≡ false = sym (there l.next) ∙ above in
         let lt : l.next < 0 + m = grind (arith, nat_tests) in
         let ge : 0 ≤ l.next = omega arith in
-        absurd (clash (nat_le 0 l.next && nat_lt l.next (0 + m)) (together (nat_le 0 l.next) (nat_lt l.next (0 + m)) (grind (arith, nat_tests)) (grind (arith, nat_tests))) no)
+        absurd (both_ways (nat_le 0 l.next && nat_lt l.next (0 + m)) no (together (nat_le 0 l.next) (nat_lt l.next (0 + m)) (grind (arith, nat_tests)) (grind (arith, nat_tests))))
     by false e false f = grind (arith, nat_tests)
 
 -- a level at which no flaw stands
@@ -110,8 +103,7 @@ canonical_level l s none =
       layered = layered;
       live = λ node lt. straight (list_any is_some (row l node)) (none_below (is_dead l) l.size (none Dead) node lt);
       reached = reached;
-      reduced = λ node other before lt same. clash (same_edges (row l other) (row l node)) ((same_edges_decides (row l other) (row l node)).1 (sym same))
-          (none_of_range (same_edges (row l other)) (row l) 0 other node (none_below (is_twin l) l.size (none Twin) other lt) (omega arith) (omega arith));
+      reduced = λ node other before lt same. both_ways (same_edges (row l other) (row l node)) (none_of_range (same_edges (row l other)) (row l) 0 other node (none_below (is_twin l) l.size (none Twin) other lt) (omega arith) (omega arith)) ((same_edges_decides (row l other) (row l node)).1 (sym same));
       ordered = met_is ∙ ap (range_with_len 0) (met_count l (length (met l.table)) met_is layered reached);
     }
 

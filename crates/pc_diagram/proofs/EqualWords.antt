@@ -2,6 +2,7 @@
 use Rattle.std.proofs.Common.{◌≡◌, ℕ, zero, suc, ◌+◌, ◌*◌, ◌<◌, ◌≤◌, nat_eq, nat_lt, Bool, true, false, ◌&&◌, List, [], ◌∷◌, map, length, get_or, drop, Option, Some, None, refl, sym, ap, ◌∙◌, subst, arith}
 use Rattle.std.specs.Cmp.Lexicographic.{pointwise}
 use Rattle.std.specs.List.{list_any}
+use Rattle.std.proofs.lemmas.Bool.{both_ways}
 use Rattle.std.proofs.lemmas.Bool.Decides.{nat_tests}
 use Rattle.std.proofs.lemmas.List.{ext_get_or, get_or_past, get_or-map, length-map, length-take}
 use Rattle.std.proofs.lemmas.List.FromFn.{get_or-map-range_with_len}
@@ -42,11 +43,7 @@ no_edge l node value le = get_or_past (row l node) value None (let short = ap le
 
 -- what has an accepted word is a node
 some_node : (ls : List Level) (x : Option ℕ) (word : List ℕ) → accepts ls x word ≡ true → x ≡ None → ⊥
-some_node ls x word h e = clash (accepts ls x word) h (ap (λ y. accepts ls y word) e ∙ accepts_none ls word)
-  where
-    clash : (b : Bool) → b ≡ true → b ≡ false → ⊥
-    clash true g k = cc
-    clash false g k = cc
+some_node ls x word h e = both_ways (accepts ls x word) (ap (λ y. accepts ls y word) e ∙ accepts_none ls word) h
 
 -- what is accepted is a word
 pub accepts-is_word : (ls : List Level) (x : Option ℕ) (word : List ℕ) → accepts ls x word ≡ true → is_word (map (λ l. l.domain) ls) word ≡ true
@@ -114,8 +111,4 @@ over_domains raw word h = ap (λ d. is_word d word) (sym (domains-levels raw)) �
 pub some_words : (raw : RawDiagram) → IsCanonical raw → words raw ≡ [] → ⊥
 some_words raw h none =
     let one = some_word 1 (levels raw) (chain raw h) 0 (omega arith) in
-    clash (list_any (pointwise nat_eq one.0) (words raw)) (word_accepted raw one.0 ∙ one.1) (ap (list_any (pointwise nat_eq one.0)) none)
-  where
-    clash : (b : Bool) → b ≡ true → b ≡ false → ⊥
-    clash true g k = cc
-    clash false g k = cc
+    both_ways (list_any (pointwise nat_eq one.0) (words raw)) (ap (list_any (pointwise nat_eq one.0)) none) (word_accepted raw one.0 ∙ one.1)

@@ -16,6 +16,11 @@ both false b h = absurd cc
 pub together : (a b : Bool) → a ≡ true → b ≡ true → (a && b) ≡ true
 together a b p q = ap (λ x. x && b) p ∙ q
 
+-- a test passes where its opposite doesn't
+pub straight : (b : Bool) → not b ≡ false → b ≡ true
+straight true e = refl
+straight false e = absurd cc
+
 less : (m n : ℕ) → nat_lt m n ≡ true → m < n
 less m n h = grind (arith, nat_tests)
 
@@ -112,10 +117,6 @@ shaped_all raw l each = let layers = l.layers in let few = l.few in record {
 pub none_misshapen : (raw : RawDiagram) → misshapen_layer raw ≡ None → IsShaped raw
 none_misshapen raw h = by (has_lists raw) refl h
   where
-    straight : (b : Bool) → not b ≡ false → b ≡ true
-    straight true e = refl
-    straight false e = absurd cc
-
     by : (b : Bool) → has_lists raw ≡ b → (if b then first_below (λ layer. not (has_shape raw layer)) (length raw.sizes) else Some 0) ≡ None → IsShaped raw
     by true e none = shaped_all raw (lists raw e) (λ layer lt. shape raw layer (straight (has_shape raw layer) (none_below (λ k. not (has_shape raw k)) (length raw.sizes) none layer lt)))
     by false e none = absurd cc

@@ -2,6 +2,7 @@
 use Rattle.std.proofs.Common.{◌≡◌, ℕ, suc, ◌+◌, ◌*◌, ◌/◌, ◌%◌, ◌<◌, ◌≤◌, ◌==◌, nat_lt, Bool, true, false, List, [], ◌∷◌, map, length, drop, get_or, is_some, Option, Some, None, if◌then◌else◌, refl, sym, ap, ◌∙◌, subst, arith, length-drop, ◌⊎◌, inl, inr}
 use Rattle.std.specs.List.{list_any}
 use Rattle.std.proofs.Math.Nat.{div-lt_iff_lt-mul, mul-le-mul_right}
+use Rattle.std.proofs.lemmas.Bool.{both_ways}
 use Rattle.std.proofs.lemmas.Bool.Decides.{nat_tests}
 use Rattle.std.proofs.lemmas.List.{ext_get_or, get_or-take, get_or-drop, get_or_past, length-take-le}
 use Rattle.std.proofs.lemmas.List.FromFn.{length-range_with_len}
@@ -51,18 +52,14 @@ some_word size (l ∷ ls) h node lt =
     let rest = some_word l.next ls h.3 target.0 (inside l.next (edge l node at.0) target.0 (outside_row l h.2 node at.0) target.1) in
     (at.0 ∷ rest.0, ap (λ x. accepts ls x rest.0) target.1 ∙ rest.1)
 
-clash : (b : Bool) → b ≡ true → b ≡ false → ⊥
-clash true g h = cc
-clash false g h = cc
-
 -- edges of the same words are the same, where nodes of the same words are
 same_edge : (next : ℕ) (ls : List Level) → IsChain next ls → ((a b : ℕ) → a < next → b < next → Same ls ls (Some a) (Some b) → a ≡ b) →
     (x y : Option ℕ) → is_outside next x ≡ false → is_outside next y ≡ false → Same ls ls x y → x ≡ y
 same_edge next ls h apart None None p q s = refl
 same_edge next ls h apart None (Some b) p q s =
-    let one = some_word next ls h b (inside next (Some b) b q refl) in absurd (clash (accepts ls (Some b) one.0) one.1 (sym (s one.0) ∙ accepts_none ls one.0))
+    let one = some_word next ls h b (inside next (Some b) b q refl) in absurd (both_ways (accepts ls (Some b) one.0) (sym (s one.0) ∙ accepts_none ls one.0) one.1)
 same_edge next ls h apart (Some a) None p q s =
-    let one = some_word next ls h a (inside next (Some a) a p refl) in absurd (clash (accepts ls (Some a) one.0) one.1 (s one.0 ∙ accepts_none ls one.0))
+    let one = some_word next ls h a (inside next (Some a) a p refl) in absurd (both_ways (accepts ls (Some a) one.0) (s one.0 ∙ accepts_none ls one.0) one.1)
 same_edge next ls h apart (Some a) (Some b) p q s = ap Some (apart a b (inside next (Some a) a p refl) (inside next (Some b) b q refl) s)
 
 -- a row has an edge for each value
@@ -146,11 +143,11 @@ module _ (ls ms : List Level) (na nb : ℕ) (h : IsChain na ls) (k : IsChain nb 
   same_table (None ∷ xs) (Some y ∷ ys) turn len p q s e f below =
       let two = neither (is_outside nb (Some y)) (list_any (is_outside nb) ys) q in
       let one = some_word nb ms k y (inside nb (Some y) y two.0 refl) in
-      absurd (clash (accepts ms (Some y) one.0) one.1 (sym (s 0 one.0) ∙ accepts_none ls one.0))
+      absurd (both_ways (accepts ms (Some y) one.0) (sym (s 0 one.0) ∙ accepts_none ls one.0) one.1)
   same_table (Some x ∷ xs) (None ∷ ys) turn len p q s e f below =
       let two = neither (is_outside na (Some x)) (list_any (is_outside na) xs) p in
       let one = some_word na ls h x (inside na (Some x) x two.0 refl) in
-      absurd (clash (accepts ls (Some x) one.0) one.1 (s 0 one.0 ∙ accepts_none ms one.0))
+      absurd (both_ways (accepts ls (Some x) one.0) (s 0 one.0 ∙ accepts_none ms one.0) one.1)
   same_table (Some x ∷ xs) (Some y ∷ ys) turn len p q s e f below =
       let a = neither (is_outside na (Some x)) (list_any (is_outside na) xs) p in
       let b = neither (is_outside nb (Some y)) (list_any (is_outside nb) ys) q in
