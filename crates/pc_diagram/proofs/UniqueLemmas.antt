@@ -1,5 +1,5 @@
 -- Canonical diagrams with the same words are equal.
-use Rattle.std.proofs.Common.{◌≡◌, ℕ, suc, ◌+◌, ◌*◌, ◌/◌, ◌%◌, ◌<◌, ◌≤◌, ◌==◌, nat_lt, Bool, true, false, List, [], ◌∷◌, map, length, drop, get_or, is_some, Option, Some, None, if◌then◌else◌, refl, sym, ap, ◌∙◌, subst, arith, length-drop, ◌⊎◌, inl, inr}
+use Rattle.std.proofs.Common.{◌≡◌, ℕ, suc, ◌+◌, ◌*◌, ◌/◌, ◌%◌, ◌<◌, ◌≤◌, ◌==◌, nat_lt, Bool, true, false, List, [], ◌∷◌, map, length, drop, get_or, is_some, IfSome, Option, Some, None, if◌then◌else◌, refl, sym, ap, ◌∙◌, subst, arith, length-drop, ◌⊎◌, inl, inr}
 use Rattle.std.specs.List.{list_any}
 use Rattle.std.proofs.Math.Nat.{div-lt_iff_lt-mul, mul-le-mul_right}
 use Rattle.std.proofs.lemmas.Bool.{both_ways}
@@ -213,3 +213,12 @@ same_levels size (l ∷ ls) (m ∷ ms) h k d s =
     let there : get_or m.table p.0 None ≡ Some node = ap (λ xs. get_or xs p.0 None) (sym et) ∙ here in
     ap (λ x. accepts ls x word) (sym here) ∙ at p.0 word ∙ ap (λ x. accepts ms x word) there) in
     λ i. record { domain = ed i; size = es i; next = en i; table = et i } ∷ more i
+
+-- an entry of a table leads to a node of the next layer
+pub entry_within : (l : Level) → IsCanonicalLevel l → (table : List (Option ℕ)) → table ≡ l.table → (place : ℕ) (x : Option ℕ) → x ≡ get_or table place None → IfSome x (λ target. target < l.next)
+entry_within l h table same place x is =
+    by x (ap (is_outside l.next) (is ∙ ap (λ t. get_or t place None) same) ∙ none_at (is_outside l.next) l.table place None h.layered refl)
+  where
+    by : (y : Option ℕ) → is_outside l.next y ≡ false → IfSome y (λ target. target < l.next)
+    by None e = tt
+    by (Some target) e = inside l.next (Some target) target e refl

@@ -1,6 +1,6 @@
 //! Decision diagrams.
 
-ghost use Rattle.std.specs.Prelude.{◌≡◌, ◌≢◌, ◌<◌, ◌≤◌, ◌+◌, length, slice_index, Some, None, OnOk, IfOk, IfErr};
+ghost use Rattle.std.specs.Prelude.{◌≡◌, ◌≢◌, ◌<◌, ◌≤◌, ◌+◌, length, slice_index, Some, None, OnOk, IfOk, IfErr, IfSome};
 
 use crate::diagram_fault::DiagramFault;
 use crate::flaw::Flaw;
@@ -89,6 +89,7 @@ impl Diagram {
         requires node { node < slice_index self.now.sizes variable }
         requires value { value < slice_index self.now.domains variable }
         ensures edge { result ≡ edge (level self.now variable) node value }
+        ensures within { IfSome result (λ target. target < slice_index self.now.sizes (variable + 1)) }
         ensures step { steps.new ≡ steps.old + 1 }
     {
         steps.take();
