@@ -1,6 +1,7 @@
 //! The plain types of a configuration - words, choices, bounds, costs, listings - and the plain program that
 //! lists valid values. Its contract is the definition: for each variable exactly the values that some fitting
-//! word takes, each with the cheapest such word.
+//! word takes, each with the cheapest such word. And decision diagrams: a `Diagram` is a canonical one, and its
+//! check tells what is wrong with tables that are none.
 #![tactic(auto)]
 
 mod bounds;
@@ -9,11 +10,22 @@ mod choice;
 mod choices;
 mod costing;
 mod costs;
+mod diagram;
+mod diagram_fault;
+mod diagram_laws;
+mod flaw;
+mod flawed_nodes;
+mod flaws;
 mod laws;
 mod listed;
 mod matching;
+mod place;
 mod priced;
+mod raw_diagram;
+mod shape;
 mod side;
+mod steps;
+mod table;
 mod valid_values;
 mod which;
 mod word;
@@ -24,13 +36,21 @@ pub use choice::Choice;
 pub use choices::Choices;
 pub use costing::{cost, cost_pair, is_priced};
 pub use costs::{CostPair, Costs};
+pub use diagram::Diagram;
+pub use diagram_fault::DiagramFault;
+pub use diagram_laws::{
+    bikes_have_a_diagram, canonical_tables_have_no_fault, equal_words_have_one_diagram,
+    nodes_are_counted_by_rests, words_are_over_the_domains,
+};
 pub use laws::{
     best_is_the_first_unbeaten, bikes_are_listed, chosen_has_a_value, listing_has_the_valid_values,
     sizes_over_two_variables, sums_are_small,
 };
 pub use listed::{Listed, Listing};
 pub use matching::{extends, fitting, within};
+pub use raw_diagram::RawDiagram;
 pub use side::Side;
+pub use steps::Steps;
 pub use valid_values::listing;
 pub use which::Which;
 pub use word::Word;

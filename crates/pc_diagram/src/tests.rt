@@ -1,7 +1,11 @@
+ghost use Rattle.std.specs.Prelude.{◌≡◌, ◌<◌};
+
 use super::*;
 use pc_base::{Sequence, crosses_threads};
 use std::alloc::Global;
 use std::fmt::Write;
+use std::marker::Brand;
+use std::sync::ledger::{Blank, Ledger};
 use std::test::Fail;
 
 #[test]
@@ -13,6 +17,9 @@ fn plain_types_cross_threads() {
     crosses_threads::<Which>();
     crosses_threads::<Side>();
     crosses_threads::<Listing>();
+    crosses_threads::<Diagram>();
+    crosses_threads::<RawDiagram>();
+    crosses_threads::<DiagramFault>();
 }
 
 /// Costs of so many variables, from rows of pairs.
@@ -212,5 +219,128 @@ fn choices_keep_their_order(rt: HostRuntime) -> Result<(), Fail> {
         },
     ];
     assert_eq!(rt; choices.as_slice(), left.as_slice());
+    Ok(())
+}
+
+fn tables_of(
+    alloc: Global,
+    domains: &[u32],
+    sizes: &[u32],
+    tables: &[&[Option<u32>]],
+) -> Result<RawDiagram, Fail> {
+    let mut edges = Sequence::new(alloc);
+    for table in tables {
+        edges.push(Sequence::from_slice(alloc, table)?)?;
+    }
+    Ok(RawDiagram {
+        domains: Sequence::from_slice(alloc, domains)?,
+        sizes: Sequence::from_slice(alloc, sizes)?,
+        edges,
+    })
+}
+
+/// The tables of the bikes with these edges for the wheel and for the light.
+fn bike_tables(
+    alloc: Global,
+    wheels: &[Option<u32>],
+    lights: &[Option<u32>],
+) -> Result<RawDiagram, Fail> {
+    tables_of(
+        alloc,
+        &[3, 2, 2],
+        &[1, 3, 2, 1],
+        &[&[Some(0), Some(1), Some(2)], wheels, lights],
+    )
+}
+
+/// A line for each node before the last layer: its layer, its number and its edges.
+fn text_of_edges<L: Ledger>(alloc: Global, diagram: &Diagram, blank: Blank) -> Result<String, Fail>
+    requires name { blank.name ≡ L.name }
+    requires parts { blank.parts ≡ L.parts }
+    requires some { 0 < blank.parts }
+{
+    let mut steps = Steps::<L>::new(blank);
+    let mut text = String::new(alloc);
+    let domains = diagram.domains();
+    for (variable, domain) in domains.iter().enumerate() {
+        let variable = variable as u32;
+        for node in 0..diagram.nodes(variable) {
+            write!(text, "{variable} {node}:")?;
+            for value in 0..*domain {
+                let edge = diagram.edge(variable, node, value, &mut steps);
+                write!(text, " {edge:?}")?;
+            }
+            writeln!(text)?;
+        }
+    }
+    Ok(text)
+}
+
+#[test]
+fn bikes_have_a_canonical_diagram(rt: HostRuntime) -> Result<(), Fail> {
+    let raw = bike_tables(
+        rt.alloc(),
+        &[Some(0), Some(0), Some(1), Some(1), None, Some(1)],
+        &[Some(0), None, Some(0), Some(0)],
+    )?;
+    let diagram = Diagram::check(rt.alloc(), raw)?;
+    let edges = text_of_edges::<Brand>(rt.alloc(), &diagram, Blank::new(1))?;
+    assert_eq!(rt;
+        edges.as_str(),
+        "0 0: Some(0) Some(1) Some(2)\n\
+         1 0: Some(0) Some(0)\n\
+         1 1: Some(1) Some(1)\n\
+         1 2: None Some(1)\n\
+         2 0: Some(0) None\n\
+         2 1: Some(0) Some(0)\n"
+    );
+    Ok(())
+}
+
+/// What is told of tables.
+fn fault_of(alloc: Global, raw: RawDiagram) -> Option<DiagramFault> {
+    Diagram::check(alloc, raw).err()
+}
+
+#[test]
+fn each_fault_is_told(rt: HostRuntime) -> Result<(), Fail> {
+    let wheels = [Some(0), Some(0), Some(1), Some(1), None, Some(1)];
+    let lights = [Some(0), None, Some(0), Some(0)];
+    let misshapen = bike_tables(rt.alloc(), &wheels, &[Some(0), None, Some(0)])?;
+    assert_eq!(rt;
+        fault_of(rt.alloc(), misshapen),
+        Some(DiagramFault::Shape { layer: 2, node: 0 })
+    );
+    let leading_out = [Some(0), Some(0), Some(1), Some(1), None, Some(2)];
+    assert_eq!(rt;
+        fault_of(rt.alloc(), bike_tables(rt.alloc(), &leading_out, &lights)?),
+        Some(DiagramFault::EdgeOut { layer: 1, node: 2 })
+    );
+    let dead = bike_tables(rt.alloc(), &wheels, &[Some(0), None, None, None])?;
+    assert_eq!(rt;
+        fault_of(rt.alloc(), dead),
+        Some(DiagramFault::Dead { layer: 2, node: 1 })
+    );
+    let to_one = [Some(0), Some(0), Some(0), None, None, Some(0)];
+    assert_eq!(rt;
+        fault_of(rt.alloc(), bike_tables(rt.alloc(), &to_one, &lights)?),
+        Some(DiagramFault::Unreached { layer: 2, node: 1 })
+    );
+    let twins = tables_of(
+        rt.alloc(),
+        &[2, 1],
+        &[1, 2, 1],
+        &[&[Some(0), Some(1)], &[Some(0), Some(0)]],
+    )?;
+    assert_eq!(rt;
+        fault_of(rt.alloc(), twins),
+        Some(DiagramFault::Twin { layer: 1, node: 1 })
+    );
+    let swapped = [Some(1), Some(1), Some(0), Some(0), None, Some(0)];
+    let out_of_order = bike_tables(rt.alloc(), &swapped, &[Some(0), Some(0), Some(0), None])?;
+    assert_eq!(rt;
+        fault_of(rt.alloc(), out_of_order),
+        Some(DiagramFault::Order { layer: 2, node: 0 })
+    );
     Ok(())
 }
