@@ -10,7 +10,7 @@ use Rattle.pc_calls.specs.declared.outcome.Outcome.{Outcome}
 use Rattle.pc_calls.specs.declared.outcome.Outcome.TheVariants.{NoSession, NoVersion, SessionsFull, NoProduct, Stale, ShelvesFull}
 use Rattle.pc_calls.specs.Answer.{Answer, ◌>>=◌, ◌>>◌, required, refused_where}
 use Rattle.pc_calls.specs.History.{is_present}
-use Rattle.pc_calls.specs.Kept.{WasOpen, IsNext, IsKept}
+use Rattle.pc_calls.specs.Kept.{IsKept}
 use Rattle.pc_calls.specs.Selection.{Selection, choose, retract, show}
 use Rattle.pc_calls.specs.State.{Caller, OpenSession, State, Version, current, file_of, is_owned, is_session, live_versions, numbered, open_sessions, opened_by, session_of}
 use Rattle.pc_calls.specs.Step.{after, asking, change_first, change_numbered, drop_first, given, gone, in_session, newcomer, state_of, with_opened, with_selection}

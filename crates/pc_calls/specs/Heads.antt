@@ -1,7 +1,5 @@
 -- The head of the answer to a call, and its reply.
-use Rattle.std.specs.Prelude.{ℕ, Bool, true, false, if◌then◌else◌, List, [], Option, Some, None, option_map, option_and_then, Ok, Err}
-use Rattle.pc_diagram.specs.declared.listed.Listed.{Listed}
-use Rattle.pc_file.specs.Limits.{Contents}
+use Rattle.std.specs.Prelude.{ℕ, Bool, true, false, if◌then◌else◌, [], Option, None, option_map, option_and_then, Ok, Err}
 use Rattle.pc_calls.specs.declared.call.Call.{Call}
 use Rattle.pc_calls.specs.declared.call.Call.TheVariants.{Open, Show, Choose, Retract, Bound, Unbound, Rebase, Close, Publish}
 use Rattle.pc_calls.specs.declared.head.Head.{Head}

@@ -1,7 +1,5 @@
 -- The state that calls lead to.
-use Rattle.std.specs.Prelude.{ℕ, zero, suc, ◌==◌, ◌+◌, ◌-◌, Bool, true, false, not, ◌&&◌, if◌then◌else◌, List, [], ◌∷◌, ◌++◌, length, map, filter, find, count_by, Option, Some, None, option_map, slice_get, unwrap_or}
-use Rattle.pc_diagram.specs.declared.bounds.Bounds.{Bounds}
-use Rattle.pc_diagram.specs.declared.choice.Choice.{Choice}
+use Rattle.std.specs.Prelude.{ℕ, zero, suc, ◌==◌, Bool, ◌&&◌, List, [], length, find, count_by, Option, None, option_map, slice_get, unwrap_or}
 use Rattle.pc_file.specs.Limits.{Contents}
 use Rattle.pc_calls.specs.Selection.{Selection}
 

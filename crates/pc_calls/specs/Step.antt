@@ -1,5 +1,5 @@
 -- What each call does to the state, or the first of its refusals that stands. A refused call leaves the state.
-use Rattle.std.specs.Prelude.{ℕ, zero, suc, ◌==◌, ◌+◌, nat_le, Bool, true, false, not, if◌then◌else◌, List, [], ◌∷◌, ◌++◌, filter, length, Option, Some, None, Ok, Err}
+use Rattle.std.specs.Prelude.{ℕ, zero, suc, ◌==◌, ◌+◌, nat_le, Bool, true, false, not, if◌then◌else◌, List, [], ◌∷◌, ◌++◌, filter, length, Ok, Err}
 use Rattle.pc_file.specs.Limits.{Contents}
 use Rattle.pc_file.specs.Products.{products}
 use Rattle.pc_calls.specs.declared.call.Call.{Call}
@@ -8,7 +8,7 @@ use Rattle.pc_calls.specs.declared.outcome.Outcome.{Outcome}
 use Rattle.pc_calls.specs.declared.outcome.Outcome.TheVariants.{Done, NoSession, NoVersion, SessionsFull, NoProduct, Stale, ShelvesFull}
 use Rattle.pc_calls.specs.Answer.{Answer, ◌>>=◌, ◌>>◌, required, refused_where}
 use Rattle.pc_calls.specs.Selection.{Selection, free, show, choose, retract}
-use Rattle.pc_calls.specs.State.{Version, Caller, OpenSession, State, current, live_versions, file_of, opened_by, is_owned, is_session, session_of, open_sessions}
+use Rattle.pc_calls.specs.State.{Caller, OpenSession, State, current, live_versions, file_of, opened_by, is_owned, is_session, session_of, open_sessions}
 
 -- a caller may have so many open sessions, and so many versions may be live
 abbrev pub most_sessions : ℕ

@@ -61,6 +61,7 @@ impl SharedFile {
         })
     }
 
+    /// The file, which the holders share, for as long as this one is borrowed. It takes no memory and never fails.
     pub fn file(&self) -> &File
         ensures { result.now ≡ self.now }
     {

@@ -9,7 +9,7 @@ use Rattle.pc_file.specs.declared.rule.Rule.{Rule, Rule-F, fold-Rule, fold-roll-
 use Rattle.pc_file.specs.declared.rule.Rule.TheVariants.{Is, Not, And, Implies, rolls-Is, rolls-Not, rolls-And, rolls-Implies}
 use Rattle.pc_file.specs.Rule.{holds, holds_step}
 use Rattle.pc_file.specs.Nesting.{Nesting, nesting, nesting_step}
-use Rattle.pc_file.specs.Limits.{is_spelled_step, is_rule}
+use Rattle.pc_file.specs.Limits.{IsFile, is_spelled_step, is_rule}
 use Rattle.pc_file.specs.PrintedRule.{Printed, printing_step, printed_rule}
 use Rattle.pc_file.specs.PrintedForm.{header_line, cost_line, variable_lines, line_of, end_line, text_of_lines, printed, printed_lines}
 use Rattle.pc_file.specs.PrintedSize.{is_short_line, IsPrintable}
@@ -111,4 +111,18 @@ pub bike_printable : IsPrintable bike
 bike_printable = record {
   each_line = ap (list_all is_short_line) bike_lines ∙ short_lines;
   bytes_at_most = omega (arith, ap length bike_text);
+}
+
+pub bike_is_file : IsFile bike
+bike_is_file = record {
+  some_cost = omega arith;
+  costs_at_most = omega arith;
+  costs_differ = refl;
+  some_variable = omega arith;
+  variables_at_most = omega arith;
+  names_differ = refl;
+  each_variable = refl;
+  rules_at_most = omega arith;
+  each_rule = bike_rules;
+  printable = bike_printable;
 }

@@ -1,19 +1,17 @@
 //! The limits of a file.
 
-ghost use Rattle.std.specs.Prelude.{◌≡◌, nat_le, ◌==◌, ◌&&◌, length, map, is_some};
-ghost use Rattle.std.specs.List.{list_all, list_any, zip};
+ghost use Rattle.std.specs.Prelude.{◌≡◌, nat_le, ◌==◌, ◌&&◌, length};
+ghost use Rattle.std.specs.List.{list_all, zip};
 ghost use Rattle.pc_base.specs.Distinct.{all_differ};
-ghost use Rattle.pc_file.specs.Limits.{is_reserved, is_cost, is_value, is_sized, is_variable, has_variable, has_value, is_row, is_spelled, is_shallow, is_rule};
-ghost use Rattle.pc_file.specs.Limits.{is_spelled_step};
+ghost use Rattle.pc_file.specs.Limits.{is_reserved, is_cost, is_value, is_sized, is_variable, has_variable, has_value, is_row, is_spelled, is_spelled_step, is_rule};
 ghost use Rattle.pc_file.specs.declared.rule.Rule.TheOpen.{OneOf, Table};
-ghost use Rattle.pc_file.specs.Nesting.{nesting, open_in_place, open_in_places};
 
 use crate::holding::value_name;
 use crate::nesting::opens_at_most;
 use crate::rule::Rule;
 use crate::variable::{Value, Variable};
 use pc_base::{Sequence, all_differ};
-use pc_names::{Name, same_word};
+use pc_names::same_word;
 
 const COST_LIMIT: i64 = 1_000_000_000;
 
@@ -29,25 +27,24 @@ fn is_value(costs: usize, value: &Value) -> bool
     is_cost(value.first) && is_cost(value.second) && (costs == 2 || value.second == 0)
 }
 
-/// Whether a name is a word of the rule language, which names no variable.
-pub fn is_reserved(name: &Name) -> bool
-    ensures { result ≡ is_reserved name.now }
+/// Whether a word is one of the rule language, which names no variable.
+pub fn is_reserved(word: &[u8]) -> bool
+    ensures { result ≡ is_reserved word.now }
 {
-    let name = name.as_bytes();
-    same_word(name, "and")
-        || same_word(name, "or")
-        || same_word(name, "not")
-        || same_word(name, "in")
-        || same_word(name, "same")
-        || same_word(name, "atmost")
-        || same_word(name, "table")
+    same_word(word, "and")
+        || same_word(word, "or")
+        || same_word(word, "not")
+        || same_word(word, "in")
+        || same_word(word, "same")
+        || same_word(word, "atmost")
+        || same_word(word, "table")
 }
 
 /// Whether the name and the values of a variable keep their limits in a file of so many costs.
 fn is_variable(costs: usize, variable: &Variable) -> bool
     ensures { result ≡ is_variable costs variable.now }
 {
-    !is_reserved(&variable.name)
+    !is_reserved(variable.name.as_bytes())
         && is_sized(variable)
         && are_values(costs, variable.values.as_slice())
 }

@@ -6,7 +6,7 @@ use Rattle.pc_rules.specs.declared.token.Sign.TheVariants.{Arrow, Close, OpenBra
 use Rattle.pc_rules.specs.declared.token.Token.{Token}
 use Rattle.pc_rules.specs.declared.token.Token.TheVariants.{Mark, Word}
 use Rattle.pc_rules.specs.Token.{one_if_open, one_if_closed, is_deep_after}
-use Rattle.pc_rules.specs.Grammar.{parted, alone_word, Spells, SpellsEach}
+use Rattle.pc_rules.specs.Grammar.{parted, alone_word, SpellsPhrase, SpellsPhrases}
 use Rattle.pc_rules.specs.Grammar as grammar
 
 -- how many parentheses a text opens, and closes
@@ -100,7 +100,7 @@ closed-balanced : (text : List Token) (sign : Token) → one_if_open sign ≡ 0 
 closed-balanced text sign e f g = balanced-append text (sign ∷ []) g (omega (arith, e, f))
 
 mutual
-  pub balanced : {place : ℕ} {p : Phrase} {text : List Token} → Spells place p text → opens text ≡ closes text
+  pub balanced : {place : ℕ} {p : Phrase} {text : List Token} → SpellsPhrase place p text → opens text ≡ closes text
   balanced (grammar.parentheses place {text = text} s) =
       let e = balanced s in
       let g = opens-append text (Mark Close ∷ []) in
@@ -136,6 +136,6 @@ mutual
       let j = closes-append (vs ++ Mark Close ∷ Mark OpenBrace ∷ rs) (Mark CloseBrace ∷ []) in
       omega (arith, e, f, g, h, i, j)
 
-  pub balanced_each : {place : ℕ} {ps : List Phrase} {texts : List (List Token)} → SpellsEach place ps texts → (between : Token) → one_if_open between ≡ one_if_closed between → opens (parted between texts) ≡ closes (parted between texts)
+  pub balanced_each : {place : ℕ} {ps : List Phrase} {texts : List (List Token)} → SpellsPhrases place ps texts → (between : Token) → one_if_open between ≡ one_if_closed between → opens (parted between texts) ≡ closes (parted between texts)
   balanced_each (grammar.none place) between apart = refl
   balanced_each (grammar.more {text = text} {texts = texts} s each) between apart = parted-balanced between text texts apart (balanced s) (balanced_each each between apart)

@@ -14,7 +14,7 @@ use Rattle.pc_rules.specs.Outcome.{Outcome}
 use Rattle.pc_rules.specs.Token.{one_if_open, one_if_closed, is_deep_after, is_too_deep}
 use Rattle.pc_rules.specs.Words.{Reader, and_then, ◌>>=◌, ◌>>◌, pure, refused, same_sign, sees, sees_word, past, eat, eat_word, expect, word, variable, several_from, several, listed, row}
 use Rattle.pc_rules.specs.Reading.{one_of, comparison, same, are_as_long, table, chained, joined, parenthesized, at_most, named, atom, negation, member, implication, rule_at, only, phrase_of}
-use Rattle.pc_rules.specs.Grammar.{parted, alone_word, IsFree, AreFree, AreRows, Spells, SpellsEach}
+use Rattle.pc_rules.specs.Grammar.{parted, alone_word, IsFree, AreFree, AreRows, SpellsPhrase, SpellsPhrases}
 use Rattle.pc_rules.specs.Grammar as grammar
 use Rattle.pc_rules.proofs.Readers.{the_pair, same_word-true}
 use Rattle.pc_rules.proofs.Spellers.{EachRead, nothing, also, several-reads, words-read, variables-read, rows-read}
@@ -242,7 +242,7 @@ module _ (rule : Reader Phrase) where
 -- ---- texts have tokens
 
 mutual
-  filled : {place : ℕ} {p : Phrase} {text : List Token} → Spells place p text → 1 ≤ length text
+  filled : {place : ℕ} {p : Phrase} {text : List Token} → SpellsPhrase place p text → 1 ≤ length text
   filled (grammar.parentheses place s) = omega arith
   filled (grammar.is place v a free) = omega arith
   filled (grammar.is_not place v a free) = omega arith
@@ -255,7 +255,7 @@ mutual
   filled (grammar.at_most place most some each) = omega arith
   filled (grammar.table place variables rows some free some_rows are fit) = omega arith
 
-  filled_each : {place : ℕ} {ps : List Phrase} {texts : List (List Token)} → SpellsEach place ps texts → 1 ≤ length ps → (between : Token) → 1 ≤ length (parted between texts)
+  filled_each : {place : ℕ} {ps : List Phrase} {texts : List (List Token)} → SpellsPhrases place ps texts → 1 ≤ length ps → (between : Token) → 1 ≤ length (parted between texts)
   filled_each (grammar.none place) some between = absurd (omega arith)
   filled_each (grammar.more {text = text} {texts = texts} s each) some between = first texts (filled s)
     where
@@ -336,7 +336,7 @@ module _ (limit : ℕ) where
     unfolding rule_at member
 
     -- the text of a phrase in a place is read, whatever follows that doesn't go on
-    complete : {place : ℕ} {p : Phrase} {text : List Token} → Spells place p text → (depth o c : ℕ) → depth + o ≡ c + limit → is_deep_after limit o c text ≡ false →
+    complete : {place : ℕ} {p : Phrase} {text : List Token} → SpellsPhrase place p text → (depth o c : ℕ) → depth + o ≡ c + limit → is_deep_after limit o c text ≡ false →
         (rest : List Token) → Ends place rest → reader_at (rule_at depth) place (text ++ rest) ≡ Ok (p, rest)
     complete (grammar.parentheses place {text = text} s) zero o c sum flat rest ends = let inside = opened limit (text ++ Mark Close ∷ []) o c flat in absurd (omega (arith, inside.0, sum))
     complete (grammar.parentheses place {rule = p} {text = text} s) (suc depth) o c sum flat rest ends =
@@ -401,7 +401,7 @@ module _ (limit : ℕ) where
         let whole = atom-word (rule_at depth) (codes "table") (Mark Open ∷ tail) ∙ named-table (rule_at depth) (Mark Open ∷ tail) ∙ ap (λ ts. table (Mark Open ∷ ts)) front ∙ table-reads vs rows rest some free some_rows are fit in
         from_atom (rule_at depth) (phrase.Table vs rows) (Word (codes "table") ∷ Mark Open ∷ tail) rest (omega arith) place whole ends
 
-    complete_each : {place : ℕ} {ps : List Phrase} {texts : List (List Token)} → SpellsEach place ps texts → (joint : Reader Bool) (between : Token) → one_if_open between ≡ 0 → one_if_closed between ≡ 0 →
+    complete_each : {place : ℕ} {ps : List Phrase} {texts : List (List Token)} → SpellsPhrases place ps texts → (joint : Reader Bool) (between : Token) → one_if_open between ≡ 0 → one_if_closed between ≡ 0 →
         (depth o c : ℕ) → depth + o ≡ c + limit → is_deep_after limit o c (parted between texts) ≡ false → EachRead (reader_at (rule_at depth) place) joint between (Ends place) ps texts
     complete_each (grammar.none place) joint between apart apart_too depth o c sum flat = nothing
     complete_each (grammar.more {place = place} {text = text} {texts = texts} s each) joint between apart apart_too depth o c sum flat =
@@ -412,7 +412,7 @@ only-all : (outcome : Outcome (Phrase × List Token)) (p : Phrase) → outcome �
 only-all outcome p e = ap only e
 
 -- what is in the grammar is read
-pub phrase_of-complete : (tokens : List Token) (p : Phrase) → is_too_deep tokens ≡ false → Spells 0 p tokens → phrase_of tokens ≡ Ok p
+pub phrase_of-complete : (tokens : List Token) (p : Phrase) → is_too_deep tokens ≡ false → SpellsPhrase 0 p tokens → phrase_of tokens ≡ Ok p
 unfolding phrase_of is_too_deep rule_at
 phrase_of-complete tokens p flat s =
     only-all (rule_at 65 tokens) p (ap (rule_at 65) (sym (append-nil tokens)) ∙ complete 64 s 64 0 0 refl flat [] ends-nothing)
@@ -431,7 +431,7 @@ flat_enough limit (t ∷ ts) o c room =
     (le-ltb (c + one_if_closed t + limit) (o + one_if_open t) (omega (arith, one, room)))
     (flat_enough limit ts (o + one_if_open t) (c + one_if_closed t) (omega (arith, one, room)))
 
-pub one_spelling : (tokens : List Token) (p q : Phrase) → Spells 0 p tokens → Spells 0 q tokens → p ≡ q
+pub one_spelling : (tokens : List Token) (p q : Phrase) → SpellsPhrase 0 p tokens → SpellsPhrase 0 q tokens → p ≡ q
 one_spelling tokens p q s t =
     let limit = length tokens in
     let flat = flat_enough limit tokens 0 0 (omega arith) in

@@ -12,19 +12,19 @@ use Rattle.pc_rules.specs.declared.token.Token.TheVariants.{Mark, Word}
 use Rattle.pc_rules.specs.Outcome.{Outcome}
 use Rattle.pc_rules.specs.Words.{Reader, ◌>>=◌, ◌>>◌, pure, refused, eat, eat_word, expect, word, variable, several, listed, row}
 use Rattle.pc_rules.specs.Reading.{one_of, comparison, same, are_as_long, table, chained, joined, parenthesized, at_most, named, atom, negation, member, implication, rule_at, only, phrase_of}
-use Rattle.pc_rules.specs.Grammar.{parted, alone_word, IsFree, AreFree, AreRows, Spells, SpellsEach}
+use Rattle.pc_rules.specs.Grammar.{parted, alone_word, IsFree, AreFree, AreRows, SpellsPhrase, SpellsPhrases}
 use Rattle.pc_rules.specs.Grammar as grammar
 use Rattle.pc_rules.proofs.Readers.{the_value, the_pair, then_ok, branch_ok, never, same_word-true, eat_or, eat_word_or, after_expected, with_word, with_variable, eat_word-took, eat_word-left, EachBy, empty, with_first, listed-took, several-took, words-took, variables-took, rows-took}
 
 -- the tokens up to the rest spell the phrase in such a place
 abbrev pub Front : ℕ → List Token → Phrase → List Token → Type 0
-Front place ts p rest = (text : List Token) × (ts ≡ text ++ rest) × Spells place p text
+Front place ts p rest = (text : List Token) × (ts ≡ text ++ rest) × SpellsPhrase place p text
 
 -- a phrase and a rest that were answered
 again : (place : ℕ) (ts : List Token) (p q : Phrase) (left rest : List Token) → ◌≡◌ {A = Outcome (Phrase × List Token)} (Ok (p, left)) (Ok (q, rest)) → Front place ts p left → Front place ts q rest
 again place ts p q left rest e f =
     let parts = the_pair p q left rest e in
-    (f.0, f.1 ∙ ap (λ r. f.0 ++ r) parts.1, subst (λ r. Spells place r f.0) parts.0 f.2)
+    (f.0, f.1 ∙ ap (λ r. f.0 ++ r) parts.1, subst (λ r. SpellsPhrase place r f.0) parts.0 f.2)
 
 -- ---- what follows a variable's name
 
@@ -145,7 +145,7 @@ moved : (place : ℕ) (ts us : List Token) (p : Phrase) (rest : List Token) → 
 moved place ts us p rest is f = (f.0, is ∙ f.1, f.2)
 
 -- what binds more than its place asks
-pub weaker : {place : ℕ} {p : Phrase} {text : List Token} (less : ℕ) → less ≤ place → Spells place p text → Spells less p text
+pub weaker : {place : ℕ} {p : Phrase} {text : List Token} (less : ℕ) → less ≤ place → SpellsPhrase place p text → SpellsPhrase less p text
 weaker less le (grammar.parentheses place s) = grammar.parentheses less s
 weaker less le (grammar.is place v a free) = grammar.is less v a free
 weaker less le (grammar.is_not place v a free) = grammar.is_not less v a free
@@ -158,22 +158,22 @@ weaker less le (grammar.same place v w free other) = grammar.same less v w free 
 weaker less le (grammar.at_most place most some each) = grammar.at_most less most some each
 weaker less le (grammar.table place variables rows some free some_rows are fit) = grammar.table less variables rows some free some_rows are fit
 
-each_spells : (place : ℕ) (ps : List Phrase) (texts : List (List Token)) → EachBy (Spells place) ps texts → SpellsEach place ps texts
+each_spells : (place : ℕ) (ps : List Phrase) (texts : List (List Token)) → EachBy (SpellsPhrase place) ps texts → SpellsPhrases place ps texts
 each_spells place [] [] empty = grammar.none place
 each_spells place [] (text ∷ texts) each = elim each [ ]
 each_spells place (p ∷ ps) [] each = elim each [ ]
 each_spells place (p ∷ ps) (text ∷ texts) (with_first told each) = grammar.more told (each_spells place ps texts each)
 
 -- a chain binds one less than its members have to
-conjunction_of : (first : Phrase) (others : List Phrase) (text : List Token) (texts : List (List Token)) → Spells 3 first text → EachBy (Spells 3) others texts →
-    Spells 2 (chained chain.And (first ∷ others)) (parted (Word (codes "and")) (text ∷ texts))
+conjunction_of : (first : Phrase) (others : List Phrase) (text : List Token) (texts : List (List Token)) → SpellsPhrase 3 first text → EachBy (SpellsPhrase 3) others texts →
+    SpellsPhrase 2 (chained chain.And (first ∷ others)) (parted (Word (codes "and")) (text ∷ texts))
 conjunction_of first [] text [] told each = weaker 2 (omega arith) told
 conjunction_of first [] text (next ∷ texts) told each = elim each [ ]
 conjunction_of first (other ∷ others) text [] told each = elim each [ ]
 conjunction_of first (other ∷ others) text (next ∷ texts) told each = grammar.and (omega arith) (omega arith) (grammar.more told (each_spells 3 (other ∷ others) (next ∷ texts) each))
 
-disjunction_of : (first : Phrase) (others : List Phrase) (text : List Token) (texts : List (List Token)) → Spells 2 first text → EachBy (Spells 2) others texts →
-    Spells 1 (chained chain.Or (first ∷ others)) (parted (Word (codes "or")) (text ∷ texts))
+disjunction_of : (first : Phrase) (others : List Phrase) (text : List Token) (texts : List (List Token)) → SpellsPhrase 2 first text → EachBy (SpellsPhrase 2) others texts →
+    SpellsPhrase 1 (chained chain.Or (first ∷ others)) (parted (Word (codes "or")) (text ∷ texts))
 disjunction_of first [] text [] told each = weaker 1 (omega arith) told
 disjunction_of first [] text (next ∷ texts) told each = elim each [ ]
 disjunction_of first (other ∷ others) text [] told each = elim each [ ]
@@ -186,17 +186,17 @@ and-took : (item : Reader Phrase) → Took 3 item → Took 2 (joined chain.And i
 unfolding joined
 and-took item item-took ts p rest e =
     let s = then_ok (several item (eat_word (codes "and")) ts) (λ members. pure (chained chain.And members)) p rest e in
-    let l = several-took (Spells 3) item (eat_word (codes "and")) (Word (codes "and")) (λ us q r h. item-took us q r h) (eat_word-took (codes "and")) (eat_word-left (codes "and")) s.0 ts s.1 s.2 in
+    let l = several-took (SpellsPhrase 3) item (eat_word (codes "and")) (Word (codes "and")) (λ us q r h. item-took us q r h) (eat_word-took (codes "and")) (eat_word-left (codes "and")) s.0 ts s.1 s.2 in
     again 2 ts (chained chain.And s.0) p s.1 rest s.3
-    (parted (Word (codes "and")) (l.text ∷ l.texts), l.took, subst (λ all. Spells 2 (chained chain.And all) (parted (Word (codes "and")) (l.text ∷ l.texts))) (sym l.is) (conjunction_of l.first l.others l.text l.texts l.told l.each))
+    (parted (Word (codes "and")) (l.text ∷ l.texts), l.took, subst (λ all. SpellsPhrase 2 (chained chain.And all) (parted (Word (codes "and")) (l.text ∷ l.texts))) (sym l.is) (conjunction_of l.first l.others l.text l.texts l.told l.each))
 
 or-took : (item : Reader Phrase) → Took 2 item → Took 1 (joined chain.Or item)
 unfolding joined
 or-took item item-took ts p rest e =
     let s = then_ok (several item (eat_word (codes "or")) ts) (λ members. pure (chained chain.Or members)) p rest e in
-    let l = several-took (Spells 2) item (eat_word (codes "or")) (Word (codes "or")) (λ us q r h. item-took us q r h) (eat_word-took (codes "or")) (eat_word-left (codes "or")) s.0 ts s.1 s.2 in
+    let l = several-took (SpellsPhrase 2) item (eat_word (codes "or")) (Word (codes "or")) (λ us q r h. item-took us q r h) (eat_word-took (codes "or")) (eat_word-left (codes "or")) s.0 ts s.1 s.2 in
     again 1 ts (chained chain.Or s.0) p s.1 rest s.3
-    (parted (Word (codes "or")) (l.text ∷ l.texts), l.took, subst (λ all. Spells 1 (chained chain.Or all) (parted (Word (codes "or")) (l.text ∷ l.texts))) (sym l.is) (disjunction_of l.first l.others l.text l.texts l.told l.each))
+    (parted (Word (codes "or")) (l.text ∷ l.texts), l.took, subst (λ all. SpellsPhrase 1 (chained chain.Or all) (parted (Word (codes "or")) (l.text ∷ l.texts))) (sym l.is) (disjunction_of l.first l.others l.text l.texts l.told l.each))
 
 module _ (rule : Reader Phrase) (rule-took : Took 0 rule) where
   parenthesized-took : (ts : List Token) (p : Phrase) (rest : List Token) → parenthesized rule ts ≡ Ok (p, rest) → Front 4 (Mark Open ∷ ts) p rest
@@ -220,14 +220,14 @@ module _ (rule : Reader Phrase) (rule-took : Took 0 rule) where
       let w = with_word at_most-inside ts p rest e in
       let opened = after_expected Open (listed rule >>= at_most-end w.0) w.1 p rest w.3 in
       let ms = then_ok (listed rule opened.0) (at_most-end w.0) p rest opened.2 in
-      let l = listed-took (Spells 0) rule (λ us q r h. rule-took us q r h) ms.0 opened.0 ms.1 ms.2 in
+      let l = listed-took (SpellsPhrase 0) rule (λ us q r h. rule-took us q r h) ms.0 opened.0 ms.1 ms.2 in
       let close = after_expected Close (pure (phrase.AtMost w.0 ms.0)) ms.1 p rest ms.3 in
       let members = parted (Mark Comma) (l.text ∷ l.texts) in
       let some : 1 ≤ length ms.0 = omega (arith, ap (length {A = Phrase}) l.is) in
       again 4 (Word (codes "atmost") ∷ ts) (phrase.AtMost w.0 ms.0) p close.0 rest close.2 (
         Word (codes "atmost") ∷ Word w.0 ∷ Mark Open ∷ members ++ Mark Close ∷ [],
         ap (λ r. Word (codes "atmost") ∷ r) (w.2 ∙ ap (λ r. Word w.0 ∷ r) (opened.1 ∙ ap (λ r. Mark Open ∷ r) (l.took ∙ ap (λ r. members ++ r) close.1 ∙ sym (append_assoc members (Mark Close ∷ []) close.0)))),
-        grammar.at_most 4 w.0 some (subst (λ all. SpellsEach 0 all (l.text ∷ l.texts)) (sym l.is) (each_spells 0 (l.first ∷ l.others) (l.text ∷ l.texts) (with_first l.told l.each))),
+        grammar.at_most 4 w.0 some (subst (λ all. SpellsPhrases 0 all (l.text ∷ l.texts)) (sym l.is) (each_spells 0 (l.first ∷ l.others) (l.text ∷ l.texts) (with_first l.told l.each))),
       )
 
   named-took : (name : List ℕ) (ts : List Token) (p : Phrase) (rest : List Token) → named rule name ts ≡ Ok (p, rest) → Front 4 (Word name ∷ ts) p rest
@@ -323,8 +323,8 @@ only-took (Ok (q, token ∷ tokens)) p e = absurd cc
 only-took (Err kind) p e = absurd cc
 
 -- what is read is in the grammar
-pub phrase_of-sound : (tokens : List Token) (p : Phrase) → phrase_of tokens ≡ Ok p → Spells 0 p tokens
+pub phrase_of-sound : (tokens : List Token) (p : Phrase) → phrase_of tokens ≡ Ok p → SpellsPhrase 0 p tokens
 unfolding phrase_of
 phrase_of-sound tokens p e =
     let f = rule_at-took 65 tokens p [] (only-took (rule_at 65 tokens) p e) in
-    subst (Spells 0 p) (sym (f.1 ∙ append-nil f.0)) f.2
+    subst (SpellsPhrase 0 p) (sym (f.1 ∙ append-nil f.0)) f.2

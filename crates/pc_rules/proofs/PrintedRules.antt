@@ -29,7 +29,7 @@ use Rattle.pc_rules.specs.RuleFaults.{fault_step, test_of, has_fault}
 use Rattle.pc_rules.specs.Naming.{variable_at, value_at, values_at, rows_at, all_ok, named_step, rule_named, HoldsNames}
 use Rattle.pc_rules.specs.Reading.{are_as_long}
 use Rattle.pc_rules.specs.Nameable.{Nameable}
-use Rattle.pc_rules.specs.Grammar.{parted, alone_word, Spells, SpellsEach}
+use Rattle.pc_rules.specs.Grammar.{parted, alone_word, SpellsPhrase, SpellsPhrases}
 use Rattle.pc_rules.specs.Grammar as grammar
 use Rattle.pc_rules.proofs.CountLemmas.{count_of_spelled}
 use Rattle.pc_rules.proofs.Depth.{balanced, balanced_each}
@@ -47,7 +47,7 @@ module _ (names : Catalogue) (variables : List Variable) (holds : HoldsNames nam
   pub record Shown (place : ℕ) (text : List ℕ) (most : ℕ) (r : Rule) : Type 0 where
     pub tokens : List Token
     pub said : Phrase
-    pub spells : Spells place said tokens
+    pub spells : SpellsPhrase place said tokens
     pub cut : Cuts text tokens
     pub named : rule_named names said ≡ Ok r
     pub faultless : (fault : AtMostFault) → has_fault fault said ≡ false
@@ -104,7 +104,7 @@ module _ (names : Catalogue) (variables : List Variable) (holds : HoldsNames nam
   record ShownEach (asked : ℕ) (rs : List Rule) : Type 0 where
     texts : List (List Token)
     said : List Phrase
-    spells : SpellsEach asked said texts
+    spells : SpellsPhrases asked said texts
     cut : AllZip Cuts (map (printed_in_place asked variables) rs) texts
     named : all_ok (map (rule_named names) said) ≡ Ok rs
     faultless : (fault : AtMostFault) → list_any (has_fault fault) said ≡ false

@@ -18,7 +18,7 @@ use Rattle.pc_rules.specs.Outcome.{Outcome, ◌>>=◌}
 use Rattle.pc_rules.specs.Counts.{count_of}
 use Rattle.pc_rules.specs.Token.{one_if_open, one_if_closed, is_deep_after, is_too_deep}
 use Rattle.pc_rules.specs.Naming.{variable_at, value_at, variables_at, values_at, rows_at, all_ok, named_step, rule_named}
-use Rattle.pc_rules.specs.Grammar.{parted, alone_word, Spells, SpellsEach}
+use Rattle.pc_rules.specs.Grammar.{parted, alone_word, SpellsPhrase, SpellsPhrases}
 use Rattle.pc_rules.specs.Grammar as grammar
 use Rattle.pc_rules.proofs.Positions.{bind_ok, the_ok}
 use Rattle.pc_rules.proofs.PhraseLemmas.{rule_named-And, rule_named-Or, rule_named-AtMost}
@@ -117,7 +117,7 @@ module _ (limit : ℕ) where
 
     mutual
       -- with so many parentheses open before, at most so many more
-      pub shallow : {place : ℕ} {p : Phrase} {text : List Token} → Spells place p text → place ≤ 4 → (most o c : ℕ) → most + o ≡ c + limit → is_deep_after limit o c text ≡ false →
+      pub shallow : {place : ℕ} {p : Phrase} {text : List Token} → SpellsPhrase place p text → place ≤ 4 → (most o c : ℕ) → most + o ≡ c + limit → is_deep_after limit o c text ≡ false →
           (r : Rule) → rule_named names p ≡ Ok r → open_in_place place (nesting r) ≤ most
       shallow (grammar.parentheses place {text = text} s) low most o c sum flat r e =
           let inside = opened (text ++ Mark Close ∷ []) o c flat in
@@ -172,7 +172,7 @@ module _ (limit : ℕ) where
           let is = ap nesting (sym (the_ok (rule.AtMost count b.0) r b.2)) ∙ nesting-AtMost count b.0 in
           subst (λ n. open_in_place place n ≤ most) (sym is) (enough place 4 (open_in_places 0 (map nesting b.0) + 1) most low (omega (arith, few, sum, inside.0)))
 
-      shallow_each : {place : ℕ} {ps : List Phrase} {texts : List (List Token)} → SpellsEach place ps texts → place ≤ 4 → (between : Token) → one_if_open between ≡ 0 → one_if_closed between ≡ 0 →
+      shallow_each : {place : ℕ} {ps : List Phrase} {texts : List (List Token)} → SpellsPhrases place ps texts → place ≤ 4 → (between : Token) → one_if_open between ≡ 0 → one_if_closed between ≡ 0 →
           (most o c : ℕ) → most + o ≡ c + limit → is_deep_after limit o c (parted between texts) ≡ false → (rs : List Rule) → all_ok (map (rule_named names) ps) ≡ Ok rs →
           list_all (λ r. nat_le (open_in_place place (nesting r)) most) rs ≡ true
       shallow_each (grammar.none place) low between apart apart_too most o c sum flat rs e = ap (list_all (λ r. nat_le (open_in_place place (nesting r)) most)) (sym (the_ok [] rs e))
@@ -188,7 +188,7 @@ module _ (limit : ℕ) where
           ∙ and_from (nat_le (open_in_place place (nesting a.0)) most) (list_all (λ r. nat_le (open_in_place place (nesting r)) most) b.0) (le-leb (open_in_place place (nesting a.0)) most first) others
 
 -- the printed form of a rule that is spelled by a text that isn't too deep
-pub shallow_rule : (names : Catalogue) {p : Phrase} {text : List Token} → Spells 0 p text → is_too_deep text ≡ false → (r : Rule) → rule_named names p ≡ Ok r → is_shallow r ≡ true
+pub shallow_rule : (names : Catalogue) {p : Phrase} {text : List Token} → SpellsPhrase 0 p text → is_too_deep text ≡ false → (r : Rule) → rule_named names p ≡ Ok r → is_shallow r ≡ true
 unfolding is_too_deep
 shallow_rule names s flat r e =
     let few = shallow 64 names s (omega arith) 64 0 0 refl flat r e in

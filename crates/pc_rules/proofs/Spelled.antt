@@ -20,7 +20,7 @@ use Rattle.pc_rules.specs.Counts.{count_of}
 use Rattle.pc_rules.specs.Reading.{are_as_long}
 use Rattle.pc_rules.specs.RuleFaults.{fault_step, test_of, has_fault, repeat_step, has_repeat}
 use Rattle.pc_rules.specs.Naming.{variable_at, value_at, variables_at, values_at, rows_at, all_ok, named_step, rule_named, HoldsNames}
-use Rattle.pc_rules.specs.Grammar.{Spells, SpellsEach}
+use Rattle.pc_rules.specs.Grammar.{SpellsPhrase, SpellsPhrases}
 use Rattle.pc_rules.specs.Grammar as grammar
 use Rattle.pc_rules.proofs.CountLemmas.{count_of-small}
 use Rattle.pc_rules.proofs.Positions.{bind_ok, the_ok, variable_at-has, value_at-has, variables_at-have, values_at-have, rows_at-are}
@@ -89,7 +89,7 @@ module _ (names : Catalogue) (variables : List Variable) (holds : HoldsNames nam
   chain_of count many b is = and_from (nat_le 2 count) b (le-leb 2 count many) is
 
   mutual
-    pub spelled : {place : ℕ} {p : Phrase} {text : List Token} → Spells place p text → (r : Rule) → rule_named names p ≡ Ok r →
+    pub spelled : {place : ℕ} {p : Phrase} {text : List Token} → SpellsPhrase place p text → (r : Rule) → rule_named names p ≡ Ok r →
         has_fault Number p ≡ false → has_fault Length p ≡ false → has_repeat r ≡ false → is_spelled variables r ≡ true
     spelled (grammar.parentheses place s) r e number size once = spelled s r e number size once
     spelled (grammar.is place v a free) r e number size once = spelled-Is v a r e
@@ -138,7 +138,7 @@ module _ (names : Catalogue) (variables : List Variable) (holds : HoldsNames nam
         ∙ and_from (nat_le count 64 && nat_le 1 (length b.0) && nat_le (length b.0) 64) (list_all (is_spelled variables) b.0)
         (and_from (nat_le count 64 && nat_le 1 (length b.0)) (nat_le (length b.0) 64) (and_from (nat_le count 64) (nat_le 1 (length b.0)) (le-leb count 64 little) (le-leb 1 (length b.0) many)) (le-leb (length b.0) 64 within)) all.0
 
-    pub each_spelled : {place : ℕ} {ps : List Phrase} {texts : List (List Token)} → SpellsEach place ps texts → (rs : List Rule) → all_ok (map (rule_named names) ps) ≡ Ok rs →
+    pub each_spelled : {place : ℕ} {ps : List Phrase} {texts : List (List Token)} → SpellsPhrases place ps texts → (rs : List Rule) → all_ok (map (rule_named names) ps) ≡ Ok rs →
         list_any (has_fault Number) ps ≡ false → list_any (has_fault Length) ps ≡ false → list_any has_repeat rs ≡ false → (list_all (is_spelled variables) rs ≡ true) × (length rs ≡ length ps)
     each_spelled (grammar.none place) rs e number size once = let is = the_ok [] rs e in (ap (list_all (is_spelled variables)) (sym is), ap length (sym is))
     each_spelled (grammar.more {rule = p} {rules = ps} s each) rs e number size once =

@@ -35,25 +35,25 @@ AreRows rows = list_all (λ row. nat_le 1 (length row)) rows ≡ true
 -- A phrase in a place is spelled by itself where it binds as much as the place asks, and else in parentheses. The places ask
 -- 0 for a whole rule, 1 on the sides of `=>`, 2 between `or` and `or`, 3 between `and` and `and`, and 4 after `not`.
 mutual
-  pub data Spells : ℕ → Phrase → List Token → Type 0 where
-    parentheses : (place : ℕ) {rule : Phrase} {text : List Token} → Spells 0 rule text → Spells place rule (Mark Open ∷ text ++ Mark Close ∷ [])
-    is : (place : ℕ) (variable value : List ℕ) → IsFree variable → Spells place (phrase.Is variable value) (Word variable ∷ Mark Equal ∷ Word value ∷ [])
-    is_not : (place : ℕ) (variable value : List ℕ) → IsFree variable → Spells place (phrase.IsNot variable value) (Word variable ∷ Mark NotEqual ∷ Word value ∷ [])
+  pub data SpellsPhrase : ℕ → Phrase → List Token → Type 0 where
+    parentheses : (place : ℕ) {rule : Phrase} {text : List Token} → SpellsPhrase 0 rule text → SpellsPhrase place rule (Mark Open ∷ text ++ Mark Close ∷ [])
+    is : (place : ℕ) (variable value : List ℕ) → IsFree variable → SpellsPhrase place (phrase.Is variable value) (Word variable ∷ Mark Equal ∷ Word value ∷ [])
+    is_not : (place : ℕ) (variable value : List ℕ) → IsFree variable → SpellsPhrase place (phrase.IsNot variable value) (Word variable ∷ Mark NotEqual ∷ Word value ∷ [])
     one_of : (place : ℕ) (variable : List ℕ) (values : List (List ℕ)) → IsFree variable → 1 ≤ length values →
-        Spells place (phrase.OneOf variable values) (Word variable ∷ Word (codes "in") ∷ Mark OpenBrace ∷ parted (Mark Comma) (map alone_word values) ++ Mark CloseBrace ∷ [])
-    not : {place : ℕ} {rule : Phrase} {text : List Token} → place ≤ 3 → Spells 4 rule text → Spells place (phrase.Not rule) (Word (codes "not") ∷ text)
-    and : {place : ℕ} {rules : List Phrase} {texts : List (List Token)} → place ≤ 2 → 2 ≤ length rules → SpellsEach 3 rules texts → Spells place (phrase.And rules) (parted (Word (codes "and")) texts)
-    or : {place : ℕ} {rules : List Phrase} {texts : List (List Token)} → place ≤ 1 → 2 ≤ length rules → SpellsEach 2 rules texts → Spells place (phrase.Or rules) (parted (Word (codes "or")) texts)
-    implies : {place : ℕ} {premise conclusion : Phrase} {text next : List Token} → place ≤ 0 → Spells 1 premise text → Spells 1 conclusion next → Spells place (phrase.Implies premise conclusion) (text ++ Mark Arrow ∷ next)
+        SpellsPhrase place (phrase.OneOf variable values) (Word variable ∷ Word (codes "in") ∷ Mark OpenBrace ∷ parted (Mark Comma) (map alone_word values) ++ Mark CloseBrace ∷ [])
+    not : {place : ℕ} {rule : Phrase} {text : List Token} → place ≤ 3 → SpellsPhrase 4 rule text → SpellsPhrase place (phrase.Not rule) (Word (codes "not") ∷ text)
+    and : {place : ℕ} {rules : List Phrase} {texts : List (List Token)} → place ≤ 2 → 2 ≤ length rules → SpellsPhrases 3 rules texts → SpellsPhrase place (phrase.And rules) (parted (Word (codes "and")) texts)
+    or : {place : ℕ} {rules : List Phrase} {texts : List (List Token)} → place ≤ 1 → 2 ≤ length rules → SpellsPhrases 2 rules texts → SpellsPhrase place (phrase.Or rules) (parted (Word (codes "or")) texts)
+    implies : {place : ℕ} {premise conclusion : Phrase} {text next : List Token} → place ≤ 0 → SpellsPhrase 1 premise text → SpellsPhrase 1 conclusion next → SpellsPhrase place (phrase.Implies premise conclusion) (text ++ Mark Arrow ∷ next)
     same : (place : ℕ) (variable other : List ℕ) → IsFree variable → IsFree other →
-        Spells place (phrase.Same variable other) (Word (codes "same") ∷ Mark Open ∷ Word variable ∷ Mark Comma ∷ Word other ∷ Mark Close ∷ [])
-    at_most : (place : ℕ) (most : List ℕ) {rules : List Phrase} {texts : List (List Token)} → 1 ≤ length rules → SpellsEach 0 rules texts →
-        Spells place (phrase.AtMost most rules) (Word (codes "atmost") ∷ Word most ∷ Mark Open ∷ parted (Mark Comma) texts ++ Mark Close ∷ [])
+        SpellsPhrase place (phrase.Same variable other) (Word (codes "same") ∷ Mark Open ∷ Word variable ∷ Mark Comma ∷ Word other ∷ Mark Close ∷ [])
+    at_most : (place : ℕ) (most : List ℕ) {rules : List Phrase} {texts : List (List Token)} → 1 ≤ length rules → SpellsPhrases 0 rules texts →
+        SpellsPhrase place (phrase.AtMost most rules) (Word (codes "atmost") ∷ Word most ∷ Mark Open ∷ parted (Mark Comma) texts ++ Mark Close ∷ [])
     table : (place : ℕ) (variables : List (List ℕ)) (rows : List (List (List ℕ))) → 1 ≤ length variables → AreFree variables → 1 ≤ length rows → AreRows rows → are_as_long variables rows ≡ true →
-        Spells place (phrase.Table variables rows)
+        SpellsPhrase place (phrase.Table variables rows)
         (Word (codes "table") ∷ Mark Open ∷ parted (Mark Comma) (map alone_word variables) ++ Mark Close ∷ Mark OpenBrace ∷ parted (Mark Comma) (map (map Word) rows) ++ Mark CloseBrace ∷ [])
 
   -- each phrase in such a place by its text
-  pub data SpellsEach : ℕ → List Phrase → List (List Token) → Type 0 where
-    none : (place : ℕ) → SpellsEach place [] []
-    more : {place : ℕ} {rule : Phrase} {text : List Token} {rules : List Phrase} {texts : List (List Token)} → Spells place rule text → SpellsEach place rules texts → SpellsEach place (rule ∷ rules) (text ∷ texts)
+  pub data SpellsPhrases : ℕ → List Phrase → List (List Token) → Type 0 where
+    none : (place : ℕ) → SpellsPhrases place [] []
+    more : {place : ℕ} {rule : Phrase} {text : List Token} {rules : List Phrase} {texts : List (List Token)} → SpellsPhrase place rule text → SpellsPhrases place rules texts → SpellsPhrases place (rule ∷ rules) (text ∷ texts)

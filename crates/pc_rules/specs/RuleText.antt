@@ -9,7 +9,7 @@ use Rattle.pc_rules.specs.declared.token.Token.{Token}
 use Rattle.pc_rules.specs.Outcome.{Outcome, ◌>>=◌, ◌>>◌, unless}
 use Rattle.pc_rules.specs.Token.{tokens_of, is_too_deep}
 use Rattle.pc_rules.specs.Reading.{phrase_of}
-use Rattle.pc_rules.specs.Grammar.{Spells}
+use Rattle.pc_rules.specs.Grammar.{SpellsPhrase}
 use Rattle.pc_rules.specs.RuleFaults.{has_fault, has_repeat}
 use Rattle.pc_rules.specs.Naming.{rule_named}
 
@@ -30,7 +30,7 @@ pub record IsRuleText (names : Catalogue) (text : List ℕ) (rule : Rule) : Type
   pub phrase : Phrase
   pub cut : tokens_of text ≡ Ok tokens
   pub shallow : is_too_deep tokens ≡ false
-  pub spelled : Spells 0 phrase tokens
+  pub spelled : SpellsPhrase 0 phrase tokens
   pub numbers : has_fault Number phrase ≡ false
   pub lengths : has_fault Length phrase ≡ false
   pub named : rule_named names phrase ≡ Ok rule

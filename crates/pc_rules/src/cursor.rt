@@ -4,9 +4,10 @@ ghost use Rattle.std.specs.Prelude.{◌≡◌, [], ◌∷◌, length, IsTrue, �
 ghost use Rattle.pc_rules.specs.Outcome.{Reads};
 ghost use Rattle.pc_rules.specs.Words as spec;
 
-use crate::fault::RuleFault;
+use crate::fault::{RuleFault, refused};
 use crate::token::{Sign, Token, Word};
-use crate::words::{is_reserved, refused, same_sign, same_word};
+use pc_file::is_reserved;
+use pc_names::same_word;
 use std::marker::Model;
 
 /// Reads tokens from left to right. Contracts see it as the tokens that are left.
@@ -154,4 +155,11 @@ impl<'a> Cursor<'a> {
     {
         self.left() == 0
     }
+}
+
+#[tactic(auto, unfolding(crate::specs::Words::same_sign))]
+fn same_sign(first: Sign, second: Sign) -> bool
+    ensures { result ≡ spec.same_sign first second }
+{
+    first == second
 }

@@ -1,5 +1,7 @@
 //! Why a rule isn't read.
 
+ghost use Rattle.std.specs.Prelude.{◌≡◌};
+
 use crate::kind::Kind;
 use pc_base::NoMemory;
 use std::alloc::{AllocError, AllocFailed};
@@ -13,6 +15,13 @@ pub enum RuleFault {
     Fault(Kind),
     #[error("out of memory")]
     NoMemory,
+}
+
+/// The fault of tokens that are no rule.
+pub fn refused() -> RuleFault
+    ensures { result ≡ RuleFault.Fault Kind.Rule }
+{
+    RuleFault::Fault(Kind::Rule)
 }
 
 impl From<NoMemory> for RuleFault {

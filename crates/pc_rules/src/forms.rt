@@ -6,11 +6,10 @@ ghost use Rattle.pc_rules.specs.Outcome.{Reads};
 ghost use Rattle.pc_rules.specs.Reading as spec;
 
 use crate::cursor::Cursor;
-use crate::fault::RuleFault;
+use crate::fault::{RuleFault, refused};
 use crate::lists::{rows, variables, words};
 use crate::phrase::Phrase;
 use crate::token::{Sign, Word};
-use crate::words::refused;
 use pc_base::Sequence;
 use std::alloc::Global;
 

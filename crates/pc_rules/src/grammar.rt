@@ -7,11 +7,12 @@ ghost use Rattle.pc_rules.specs.Words.{listed, several, eat_word};
 ghost use Rattle.pc_rules.specs.Reading as spec;
 
 use crate::cursor::Cursor;
-use crate::fault::RuleFault;
+use crate::fault::{RuleFault, refused};
 use crate::forms::{comparison, same, table};
 use crate::phrase::{Chain, Phrase};
 use crate::token::{Sign, Token, Word};
-use crate::words::{is_reserved, refused, same_word};
+use pc_file::is_reserved;
+use pc_names::same_word;
 use sqlite_items::{Boxed, Items};
 use std::alloc::Global;
 

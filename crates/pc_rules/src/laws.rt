@@ -8,7 +8,7 @@ ghost use Rattle.pc_file.specs.Limits.{is_rule};
 ghost use Rattle.pc_file.specs.PrintedRule.{printed_rule};
 ghost use Rattle.pc_rules.specs.declared.phrase.Phrase.{Phrase};
 ghost use Rattle.pc_rules.specs.declared.token.Token.{Token};
-ghost use Rattle.pc_rules.specs.Grammar.{Spells};
+ghost use Rattle.pc_rules.specs.Grammar.{SpellsPhrase};
 ghost use Rattle.pc_rules.specs.Nameable.{Nameable};
 ghost use Rattle.pc_rules.specs.Naming.{HoldsNames};
 ghost use Rattle.pc_rules.specs.RuleText.{IsRuleText};
@@ -16,7 +16,7 @@ ghost use Rattle.pc_rules.specs.RuleText.{IsRuleText};
 /// No tokens spell two phrases.
 #[tactic(auto, using(crate::proofs::GrammarComplete::one_spelling))]
 pub fn tokens_tell_phrase()
-    ensures { (tokens : List Token) (p q : Phrase) → Spells 0 p tokens → Spells 0 q tokens → p ≡ q }
+    ensures { (tokens : List Token) (p q : Phrase) → SpellsPhrase 0 p tokens → SpellsPhrase 0 q tokens → p ≡ q }
 {}
 
 /// The printed form of a rule spells that rule, by itself and after a space. So no other rule has it.

@@ -16,7 +16,6 @@ mod naming;
 mod phrase;
 mod rule_text;
 mod token;
-mod words;
 mod writer;
 
 pub use fault::RuleFault;

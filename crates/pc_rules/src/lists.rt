@@ -5,9 +5,8 @@ ghost use Rattle.pc_rules.specs.Outcome.{Reads};
 ghost use Rattle.pc_rules.specs.Words as spec;
 
 use crate::cursor::Cursor;
-use crate::fault::RuleFault;
+use crate::fault::{RuleFault, refused};
 use crate::token::{Sign, Word};
-use crate::words::refused;
 use pc_base::{NoMemory, Sequence};
 use std::alloc::Global;
 

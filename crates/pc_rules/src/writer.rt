@@ -1,13 +1,13 @@
 //! The printed form of a rule.
 
-ghost use Rattle.std.specs.Prelude.{◌≡◌, ◌++◌, [], ◌∷◌, nat_lt, List, codes, decimal, OnOk};
+ghost use Rattle.std.specs.Prelude.{◌≡◌, ◌++◌, codes, decimal, OnOk};
 ghost use Rattle.std.specs.List.{flat_map, join_by, zip};
 ghost use Rattle.pc_file.specs.declared.variable.Variable.{Variable};
 ghost use Rattle.pc_file.specs.declared.rule.Rule.TheOpen.{OneOf, Same, Table};
-ghost use Rattle.pc_file.specs.PrintedRule.{printed_variable, printed_value, printed_row, text_of, printing, printed_in_place, printed_rule};
+ghost use Rattle.pc_file.specs.PrintedRule.{printed_variable, printed_value, printed_row, text_of, printed_in_place, printed_rule};
 
 use pc_base::{NoMemory, Sequence, Text};
-use pc_file::{Rule, Variable};
+use pc_file::{Rule, Variable, strength};
 
 /// Puts the printed form of a rule at the end of a text, with the names of the variables and values that it is of.
 /// Want of memory may leave a part of it in the text.
@@ -55,7 +55,7 @@ fn push_in_place(
 ) -> Result<(), NoMemory>
     ensures { OnOk result (text.new ≡ text.old ++ printed_in_place asked variables.now rule.now) }
 {
-    if !binds_less(rule, asked) {
+    if strength(rule) >= asked {
         return push_rule(text, variables, rule);
     }
     text.extend_from_slice(b"(")?;
@@ -100,24 +100,6 @@ fn push_at_most(
     text.extend_from_slice(b" (")?;
     push_members(text, variables, 0, b", ", members)?;
     text.extend_from_slice(b")")
-}
-
-/// Whether a rule binds less than a place asks for, so that it stands there in parentheses.
-fn binds_less(rule: &Rule, asked: u8) -> bool
-    ensures { (variables : List Variable) → result ≡ nat_lt (printing variables rule.now).strength asked }
-{
-    match rule {
-        Rule::Implies(..) => 0 < asked,
-        Rule::Or(_) => 1 < asked,
-        Rule::And(_) => 2 < asked,
-        Rule::Not(_) => 3 < asked,
-        Rule::Is { .. } => 4 < asked,
-        Rule::IsNot { .. } => 4 < asked,
-        Rule::OneOf { .. } => 4 < asked,
-        Rule::Same(..) => 4 < asked,
-        Rule::AtMost { .. } => 4 < asked,
-        Rule::Table { .. } => 4 < asked,
-    }
 }
 
 fn push_comparison(

@@ -1,4 +1,5 @@
 pub mod AnswerLemmas
+pub mod BikeScripts
 pub mod Bodies
 pub mod HeardNext
 pub mod LegalScripts
@@ -10,3 +11,4 @@ pub mod ScriptTurns
 pub mod ShopCalls
 pub mod ShopKeeps
 pub mod ShopSteps
+pub mod ShortScripts

@@ -1,3 +1,4 @@
+pub mod BikeScript
 pub mod Ends
 pub mod Heard
 pub mod Made
@@ -5,5 +6,6 @@ pub mod Script
 pub mod ScriptHistory
 pub mod ScriptOutcome
 pub mod ShopState
+pub mod ShortScript
 pub mod Turns
 pub mod Visits

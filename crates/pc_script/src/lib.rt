@@ -12,7 +12,10 @@ mod shop;
 mod speaking;
 mod turn;
 
-pub use laws::{scripts_answer_by_their_histories, scripts_are_legal_histories};
+pub use laws::{
+    bike_script_is_told, scripts_answer_by_their_histories, scripts_are_legal_histories,
+    short_script_is_told,
+};
 pub use running::run_script;
 pub use script_end::ScriptEnd;
 

@@ -1,6 +1,6 @@
 -- Some product fits what a session asks: at its start, with one more listed choice, and with one choice less.
-use Rattle.std.proofs.Common.{◌≡◌, ℕ, zero, suc, ◌<◌, ◌≤◌, ◌==◌, List, [], ◌∷◌, ◌++◌, length, map, All, Contains, Option, Some, None, filter, slice_get, slice_index_or, Bool, true, false, not, cond, ◌&&◌, ◌||◌, IsTrue, refl, sym, ◌∙◌, ap, subst, arith}
-use Rattle.std.specs.List.{list_any, list_all}
+use Rattle.std.proofs.Common.{◌≡◌, ℕ, zero, suc, ◌<◌, ◌≤◌, ◌==◌, List, [], ◌∷◌, ◌++◌, length, All, Contains, Option, Some, None, filter, slice_get, slice_index_or, Bool, true, false, not, cond, ◌||◌, IsTrue, refl, sym, ◌∙◌, ap, subst, arith}
+use Rattle.std.specs.List.{list_any}
 use Rattle.std.proofs.Math.Bool.{or-true}
 use Rattle.std.proofs.lemmas.Bool.{and_parts, and_from}
 use Rattle.std.proofs.lemmas.Bool.Decides.{nat_tests}
@@ -18,7 +18,7 @@ use Rattle.pc_diagram.proofs.ListingLemmas.{listing_of-are_cheapest, length-list
 use Rattle.pc_file.specs.Limits.{Contents}
 use Rattle.pc_file.specs.Costs.{costs_of}
 use Rattle.pc_file.specs.Products.{products}
-use Rattle.pc_calls.specs.Selection.{Selection, free, shown, is_among, is_in, without_choice}
+use Rattle.pc_calls.specs.Selection.{free, shown, is_among, is_in}
 use Rattle.pc_session.specs.Visit.{some_fit}
 
 -- every word fits where nothing is asked

@@ -1,12 +1,10 @@
 -- A session as its contracts see it, and what its calls answer.
-use Rattle.std.specs.Prelude.{ℕ, Bool, Option, Some, None, List, Ok, Err}
+use Rattle.std.specs.Prelude.{ℕ, Bool, Some, None, Ok, Err}
 use Rattle.std.specs.List.{list_any}
-use Rattle.pc_diagram.specs.declared.listed.Listed.{Listed}
 use Rattle.pc_diagram.specs.Fitting.{fits}
 use Rattle.pc_file.specs.Limits.{Contents}
 use Rattle.pc_file.specs.Costs.{costs_of}
 use Rattle.pc_file.specs.Products.{products}
-use Rattle.pc_calls.specs.declared.outcome.Outcome.{Outcome}
 use Rattle.pc_calls.specs.declared.outcome.Outcome.TheVariants.{Done}
 use Rattle.pc_calls.specs.Answer.{Answer}
 use Rattle.pc_calls.specs.Selection.{Selection, shown}

@@ -5,11 +5,10 @@ use Rattle.std.specs.Fmt.{digits}
 use Rattle.std.specs.List.{AllZip}
 use Rattle.pc_base.specs.Lines.{lines}
 use Rattle.pc_file.specs.Bike.{bike}
-use Rattle.pc_file.specs.Limits.{IsFile}
 use Rattle.pc_file.specs.declared.catalogue.Catalogue.{Catalogue}
 use Rattle.pc_file.specs.declared.rule.Rule.{Rule, Rule-F, fold-Rule}
 use Rattle.pc_file.specs.declared.rule.Rule.TheVariants as rule
-use Rattle.pc_file.proofs.BikeLemmas.{bike_rules, bike_printable}
+use Rattle.pc_file.proofs.BikeLemmas.{bike_is_file}
 use Rattle.pc_rules.specs.declared.checks.AtMostFault.TheVariants.{Number, Length}
 use Rattle.pc_rules.specs.declared.phrase.Phrase.{Phrase-F, fold-Phrase}
 use Rattle.pc_rules.specs.declared.phrase.Phrase.TheVariants.{Is, Not, And, Implies}
@@ -110,20 +109,6 @@ is_small : IsSmallText bike_source
 unfolding lines
 is_small = record { bytes_at_most = omega arith; lines_at_most = omega arith; each_line = refl }
 
-is_file : IsFile bike
-is_file = record {
-  some_cost = omega arith;
-  costs_at_most = omega arith;
-  costs_differ = refl;
-  some_variable = omega arith;
-  variables_at_most = omega arith;
-  names_differ = refl;
-  each_variable = refl;
-  rules_at_most = omega arith;
-  each_rule = bike_rules;
-  printable = bike_printable;
-}
-
 -- product and costs; frame; wheel; light; rules and end
 says : AllZip (Says bike) (significant_lines bike_source) (statements bike)
 unfolding lines words first_word from_word after_word digits
@@ -169,4 +154,4 @@ says = (
 )
 
 pub bike_is_spelled : Spells bike_source bike
-bike_is_spelled = record { is_small = is_small; is_file = is_file; says = says }
+bike_is_spelled = record { is_small = is_small; is_file = bike_is_file; says = says }

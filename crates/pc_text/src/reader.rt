@@ -347,7 +347,7 @@ fn only_free_name(arguments: &[&[u8]]) -> Option<Name>
     ensures { IsOnlyFreeName (bytes arguments.now) result }
 {
     let name = only_name(arguments)?;
-    (!is_reserved(&name)).then_some(name)
+    (!is_reserved(name.as_bytes())).then_some(name)
 }
 
 /// The value that a name and a number for each cost give.

@@ -1,12 +1,12 @@
 -- What the end of a script means for the program.
-use Rattle.std.proofs.Common.{◌≡◌, ℕ, List, [], ◌∷◌, ◌++◌, Option, Some, None, IfSome, inl, inr, refl, sym, ap, ◌∙◌}
+use Rattle.std.proofs.Common.{◌≡◌, ℕ, List, ◌++◌, Option, Some, None, IfSome, inl, inr, refl, sym, ap, ◌∙◌}
 use Rattle.std.specs.Io.KnownBytes.{IsAtEnd, prepend_known}
 use Rattle.std.proofs.lemmas.List.{append-nil}
 use Rattle.pc_io.specs.declared.line_fault.LineFault.{LineFault}
 use Rattle.pc_io.specs.Ends.{Ends}
 use Rattle.pc_script.specs.declared.script_end.ScriptEnd.{ScriptEnd}
 use Rattle.pc_script.specs.declared.script_end.ScriptEnd.TheVariants.{Ended, ReadFault, WriteFault, TooLong, NoMemory}
-use Rattle.pc_script.specs.ScriptOutcome.{AnswersAll, AnswersBefore, Leaves, broken}
+use Rattle.pc_script.specs.ScriptOutcome.{AnswersBefore, Leaves, broken}
 use Rattle.pc_top.specs.Status.{code}
 use Rattle.pc_top.specs.ScriptStatus.{CalledFor, RunsScript, status_after, status_by}
 
