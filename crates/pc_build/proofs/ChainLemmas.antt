@@ -1,0 +1,160 @@
+-- Nodes that lead on to one set.
+use Rattle.std.proofs.Common.{◌≡◌, ℕ, ◌+◌, ◌<◌, ◌≤◌, nat_lt, nat_eq, Bool, true, false, ◌&&◌, cond, List, [], ◌∷◌, take, drop, replicate, length, get_or, slice_get, set, Some, All, inl, inr, get_or-set_same, get_or-set_other, refl, sym, ap, ◌∙◌, subst, arith}
+use Rattle.std.proofs.lemmas.Bool.{ltb-true, ltb-false, cases_eq}
+use Rattle.std.proofs.lemmas.List.{length-take-le, length-replicate, length-set, get_or-take, get_or-replicate, drop_more}
+use Rattle.std.proofs.lemmas.Option.{slice_get-get_or, slice_get_past, get_or_from_slice_get}
+use Rattle.std.specs.List.{list_any}
+use Rattle.pc_diagram.specs.Words.{is_word}
+use Rattle.pc_diagram.specs.Fitting.{is_number, takes}
+use Rattle.pc_store.specs.declared.id.Id.{Id}
+use Rattle.pc_store.specs.declared.store.Store.{Store}
+use Rattle.pc_store.specs.Sets.{domains_of, IsIdAt, has, has_in, leads, Keeps}
+use Rattle.pc_store.proofs.SetLemmas.{keeps_then}
+use Rattle.pc_build.specs.Chains.{leads_on, Children}
+use Rattle.pc_build.proofs.WordLemmas.{and_assoc, and_true, drop_one_more, TakenAt, taken_at}
+
+-- words that go on in children go on in their set
+pub children_lead : (store : Store) (test : ℕ → Bool) (below other : Id) (count : ℕ) (children : List Id) → Children test below other count children → ((value : ℕ) → test value ≡ false → (word : List ℕ) → has store other word ≡ false) → (word : List ℕ) → leads store children word ≡ leads_on store count test below word
+children_lead store test below other count children h none [] = refl
+children_lead store test below other count children h none (value ∷ word) = by (nat_lt value count) refl
+  where
+    choice : (b : Bool) → test value ≡ b → has store (cond b below other) word ≡ (b && has store below word)
+    choice true e = refl
+    choice false e = none value e word
+
+    by : (b : Bool) → nat_lt value count ≡ b → has_in store (slice_get children value) word ≡ (b && (test value && has store below word))
+    by true e = ap (λ o. has_in store o word) (h.each value (ltb-true value count e)) ∙ choice (test value) refl
+    by false e = ap (λ o. has_in store o word) (slice_get_past children value (let w = h.width in omega (arith, ltb-false value count e)))
+
+-- the first children alone
+pub first_children : (test : ℕ → Bool) (below other : Id) (count more : ℕ) (children : List Id) → count ≤ more → Children test below other more children → Children test below other count (take count children)
+first_children test below other count more children le h = record {
+  width = length-take-le count children inside;
+  each = λ value lt.
+      let here : value < length (take count children) = omega (arith, length-take-le count children inside) in
+      let there : value < more = omega arith in
+      slice_get-get_or (take count children) value below here ∙ ap Some (get_or-take count children value below lt ∙ get_or_from_slice_get children value (cond (test value) below other) below (h.each value there));
+}
+  where
+    inside : count ≤ length children
+    inside = let w = h.width in omega arith
+
+-- how far children are filled in
+pub record Filled (test : ℕ → Bool) (below other : Id) (count done : ℕ) (children : List Id) : Type 0 where
+  pub width : length children ≡ count
+  pub before : (k : ℕ) → k < done → get_or children k below ≡ cond (test k) below other
+  pub after : (k : ℕ) → done ≤ k → k < count → get_or children k below ≡ other
+
+pub filled_none : (test : ℕ → Bool) (below other : Id) (count : ℕ) → Filled test below other count 0 (replicate count other)
+filled_none test below other count = record {
+  width = length-replicate count other;
+  before = λ k lt. absurd (omega arith);
+  after = λ k _ lt. get_or-replicate count k other below lt;
+}
+
+-- one child more
+pub filled_one : (test : ℕ → Bool) (below other : Id) (count done : ℕ) (children : List Id) → done < count → Filled test below other count done children → test done ≡ true → Filled test below other count (done + 1) (set children done below)
+filled_one test below other count done children lt h here = record {
+  width = length-set children done below ∙ h.width;
+  before = λ k under. elim (cases_eq k done) [
+    | inl same ↦ ap (λ j. get_or (set children done below) j below) same ∙ get_or-set_same children done below below inside ∙ ap (λ b. cond b below other) (sym here) ∙ ap (λ j. cond (test j) below other) (sym same)
+    | inr differs ↦ get_or-set_other children done k below below differs ∙ h.before k (omega arith)
+  ];
+  after = λ k over within. get_or-set_other children done k below below (λ same. omega arith) ∙ h.after k (omega arith) within;
+}
+  where
+    inside : done < length children
+    inside = let w = h.width in omega arith
+
+pub filled_skip : (test : ℕ → Bool) (below other : Id) (count done : ℕ) (children : List Id) → done < count → Filled test below other count done children → test done ≡ false → Filled test below other count (done + 1) children
+filled_skip test below other count done children lt h here = record {
+  width = h.width;
+  before = λ k under. elim (cases_eq k done) [
+    | inl same ↦ ap (λ j. get_or children j below) same ∙ h.after done (omega arith) lt ∙ ap (λ b. cond b below other) (sym here) ∙ ap (λ j. cond (test j) below other) (sym same)
+    | inr differs ↦ h.before k (omega arith)
+  ];
+  after = λ k over within. h.after k (omega arith) within;
+}
+
+pub filled_all : (test : ℕ → Bool) (below other : Id) (count done : ℕ) (children : List Id) → count ≤ done → Filled test below other count done children → Children test below other count children
+filled_all test below other count done children ge h = record {
+  width = h.width;
+  each = λ value lt. slice_get-get_or children value below (let w = h.width in omega arith) ∙ ap Some (h.before value (omega arith));
+}
+
+-- the same child everywhere
+pub same_children : (below other : Id) (count : ℕ) → Children (λ value. true) below other count (replicate count below)
+same_children below other count = record {
+  width = length-replicate count below;
+  each = λ value lt. slice_get-get_or (replicate count below) value below (omega (arith, length-replicate count below)) ∙ ap Some (get_or-replicate count value below below lt);
+}
+
+-- all children are of a layer
+pub children_at : (P : Id → Type 0) (test : ℕ → Bool) (below other : Id) (count : ℕ) (children : List Id) → P below → P other → Children test below other count children → All P children
+children_at P test below other count children p q h k d lt =
+    let inside : k < count = (let w = h.width in omega arith) in
+    subst P (sym (get_or_from_slice_get children k (cond (test k) below other) d (h.each k inside))) (choice (test k))
+  where
+    choice : (b : Bool) → P (cond b below other)
+    choice true = p
+    choice false = q
+
+-- a set that goes on in another, so many layers below
+pub record Widened (old now : Store) (layer distance : ℕ) (below id : Id) : Type 0 where
+  pub is_id : IsIdAt now layer id
+  pub words : (word : List ℕ) → has now id word ≡ (is_word (drop layer (domains_of old)) word && has old below (drop distance word))
+  pub keeps : Keeps old now
+
+-- one layer more
+pub widened_more : (old mid now : Store) (layer distance : ℕ) (below wide id : Id) → layer < length (domains_of old) → Widened old mid (layer + 1) distance below wide → IsIdAt now layer id → ((word : List ℕ) → has now id word ≡ leads_on mid (get_or (domains_of mid) layer 0) (λ value. true) wide word) → Keeps mid now → Widened old now layer (distance + 1) below id
+widened_more old mid now layer distance below wide id lt h is_id words keeps = record {
+  is_id = is_id;
+  words = by;
+  keeps = keeps_then old mid now h.keeps keeps;
+}
+  where
+    domains : List ℕ
+    domains = domains_of old
+
+    first : drop layer domains ≡ get_or domains layer 0 ∷ drop (layer + 1) domains
+    first = drop_more domains layer 0 lt
+
+    by : (word : List ℕ) → has now id word ≡ (is_word (drop layer domains) word && has old below (drop (distance + 1) word))
+    by [] = words [] ∙ sym (ap (λ l. is_word l [] && has old below (drop (distance + 1) [])) first)
+    by (value ∷ word) =
+        words (value ∷ word)
+        ∙ ap (λ d. nat_lt value (get_or d layer 0) && has mid wide word) h.keeps.domains
+        ∙ ap (λ b. nat_lt value (get_or domains layer 0) && b) (h.words word)
+        ∙ and_assoc (nat_lt value (get_or domains layer 0)) (is_word (drop (layer + 1) domains) word) (has old below (drop distance word))
+        ∙ ap (λ l. is_word l (value ∷ word) && has old below (drop distance word)) (sym first)
+        ∙ ap (λ l. is_word (drop layer domains) (value ∷ word) && has old below l) (sym (drop_one_more distance value word))
+
+-- a set goes on in itself, no layer below
+pub widened_none : (store : Store) (layer : ℕ) (id : Id) → IsIdAt store layer id → ((word : List ℕ) → has store id word ≡ true → is_word (drop layer (domains_of store)) word ≡ true) → Keeps store store → Widened store store layer 0 id id
+widened_none store layer id is over keeps = record { is_id = is; words = λ word. by word (has store id word) refl; keeps = keeps }
+  where
+    by : (word : List ℕ) (b : Bool) → has store id word ≡ b → has store id word ≡ (is_word (drop layer (domains_of store)) word && has store id word)
+    by word true e = sym (ap (λ b. b && has store id word) (over word e))
+    by word false e = e ∙ sym (only (is_word (drop layer (domains_of store)) word) ∙ refl)
+      where
+        only : (b : Bool) → (b && has store id word) ≡ false
+        only true = e
+        only false = refl
+
+-- words whose value at a variable is one of these
+pub one_of_words : (old : Store) (variable : ℕ) (values : List ℕ) (rest : Id) (word : List ℕ) → variable < length (domains_of old) → ((w : List ℕ) → has old rest w ≡ is_word (drop (variable + 1) (domains_of old)) w) →
+    (is_word (domains_of old) word && leads_on old (get_or (domains_of old) variable 0) (λ value. list_any (nat_eq value) values) rest (drop variable word)) ≡ (is_word (domains_of old) word && list_any (takes word variable) values)
+one_of_words old variable values rest word lt full = by (is_word (domains_of old) word) refl
+  where
+    count : ℕ
+    count = get_or (domains_of old) variable 0
+
+    by : (b : Bool) → is_word (domains_of old) word ≡ b → (b && leads_on old count (λ value. list_any (nat_eq value) values) rest (drop variable word)) ≡ (b && list_any (takes word variable) values)
+    by false e = refl
+    by true e =
+        let at : TakenAt (domains_of old) word variable = taken_at (domains_of old) word variable lt e in
+        ap (leads_on old count (λ value. list_any (nat_eq value) values) rest) at.word_is
+        ∙ ap (λ b. b && (list_any (nat_eq at.value) values && has old rest at.rest)) at.in_range
+        ∙ ap (λ b. list_any (nat_eq at.value) values && b) (full at.rest ∙ at.rest_is)
+        ∙ and_true (list_any (nat_eq at.value) values)
+        ∙ ap (λ o. list_any (is_number o) values) (sym at.taken)
