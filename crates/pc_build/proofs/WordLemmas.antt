@@ -41,3 +41,18 @@ taken_at (domain ∷ domains) (value ∷ word) (suc variable) lt is =
       in_range = deeper.in_range;
       rest_is = ap (λ k. is_word (drop k (domain ∷ domains)) deeper.rest) more ∙ deeper.rest_is;
     }
+
+-- a word has as many values as there are variables
+pub word_length : (domains word : List ℕ) → is_word domains word ≡ true → length word ≡ length domains
+word_length [] [] is = refl
+word_length [] (value ∷ word) is = absurd (true≢false (sym is))
+word_length (domain ∷ domains) [] is = absurd (true≢false (sym is))
+word_length (domain ∷ domains) (value ∷ word) is = let rest = word_length domains word (and_parts (nat_lt value domain) (is_word domains word) is).1 in omega arith
+
+-- tests that agree on lists of that length agree among words
+pub same_among_words : (domains word : List ℕ) (a b : Bool) → (length word ≡ length domains → a ≡ b) → (is_word domains word && a) ≡ (is_word domains word && b)
+same_among_words domains word a b h = by (is_word domains word) refl
+  where
+    by : (is : Bool) → is_word domains word ≡ is → (is && a) ≡ (is && b)
+    by true e = h (word_length domains word e)
+    by false e = refl

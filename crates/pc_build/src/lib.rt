@@ -4,6 +4,9 @@
 #![tactic(auto)]
 
 mod chain;
+mod demand;
 mod one_of;
+mod table;
 
 pub use one_of::takes_one_of;
+pub use table::rows_of_table;
