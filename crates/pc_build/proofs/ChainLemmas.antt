@@ -142,19 +142,16 @@ widened_none store layer id is over keeps = record { is_id = is; words = λ word
         only false = refl
 
 -- words whose value at a variable is one of these
-pub one_of_words : (old : Store) (variable : ℕ) (values : List ℕ) (rest : Id) (word : List ℕ) → variable < length (domains_of old) → ((w : List ℕ) → has old rest w ≡ is_word (drop (variable + 1) (domains_of old)) w) →
-    (is_word (domains_of old) word && leads_on old (get_or (domains_of old) variable 0) (λ value. list_any (nat_eq value) values) rest (drop variable word)) ≡ (is_word (domains_of old) word && list_any (takes word variable) values)
-one_of_words old variable values rest word lt full = by (is_word (domains_of old) word) refl
+pub one_of_words : (store : Store) (domains : List ℕ) (variable count : ℕ) (values : List ℕ) (rest : Id) (word : List ℕ) → variable < length domains → count ≡ get_or domains variable 0 → ((w : List ℕ) → has store rest w ≡ is_word (drop (variable + 1) domains) w) →
+    (is_word domains word && leads_on store count (λ value. list_any (nat_eq value) values) rest (drop variable word)) ≡ (is_word domains word && list_any (takes word variable) values)
+one_of_words store domains variable count values rest word lt count_is full = by (is_word domains word) refl
   where
-    count : ℕ
-    count = get_or (domains_of old) variable 0
-
-    by : (b : Bool) → is_word (domains_of old) word ≡ b → (b && leads_on old count (λ value. list_any (nat_eq value) values) rest (drop variable word)) ≡ (b && list_any (takes word variable) values)
+    by : (b : Bool) → is_word domains word ≡ b → (b && leads_on store count (λ value. list_any (nat_eq value) values) rest (drop variable word)) ≡ (b && list_any (takes word variable) values)
     by false e = refl
     by true e =
-        let at : TakenAt (domains_of old) word variable = taken_at (domains_of old) word variable lt e in
-        ap (leads_on old count (λ value. list_any (nat_eq value) values) rest) at.word_is
-        ∙ ap (λ b. b && (list_any (nat_eq at.value) values && has old rest at.rest)) at.in_range
+        let at : TakenAt domains word variable = taken_at domains word variable lt e in
+        ap (leads_on store count (λ value. list_any (nat_eq value) values) rest) at.word_is
+        ∙ ap (λ b. b && (list_any (nat_eq at.value) values && has store rest at.rest)) (ap (nat_lt at.value) count_is ∙ at.in_range)
         ∙ ap (λ b. list_any (nat_eq at.value) values && b) (full at.rest ∙ at.rest_is)
         ∙ and_true (list_any (nat_eq at.value) values)
         ∙ ap (λ o. list_any (is_number o) values) (sym at.taken)

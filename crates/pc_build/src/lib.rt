@@ -5,8 +5,11 @@
 
 mod chain;
 mod demand;
+mod named;
 mod one_of;
+mod same;
 mod table;
 
 pub use one_of::takes_one_of;
+pub use same::same_names;
 pub use table::rows_of_table;
