@@ -34,7 +34,12 @@ impl Demand {
 }
 
 /// What a row asks of each of so many variables.
-pub(crate) fn demands_of(alloc: Global, count: u32, variables: &[u32], row: &[u32]) -> Result<Vec<Demand>, NoMemory>
+pub(crate) fn demands_of(
+    alloc: Global,
+    count: u32,
+    variables: &[u32],
+    row: &[u32],
+) -> Result<Vec<Demand>, NoMemory>
     requires { All (λ variable. variable < count) variables.now }
     ensures count { IfOk result (λ demands. length demands.items ≡ count) }
     ensures words { IfOk result (λ demands. (word : List ℕ) → length word ≡ count

@@ -34,13 +34,18 @@ pub(crate) fn takes_name_from(
 }
 
 /// The places of the values of this name, among so many.
-fn places_named(alloc: Global, count: u32, values: &[Value], name: &Name) -> Result<Vec<u32>, NoMemory>
+fn places_named(
+    alloc: Global,
+    count: u32,
+    values: &[Value],
+    name: &Name,
+) -> Result<Vec<u32>, NoMemory>
     requires { count ≡ length values.now }
     ensures { IfOk result (λ places. (value : ℕ) → list_any (nat_eq value) places.items ≡ same_name (Some name.now) (name_of values.now value)) }
 {
     let mut places = Vec::new(alloc);
     for place in 0..count {
-        if values[place as usize].name == *name {
+        if *name == values[place as usize].name {
             places.push(place)?;
         }
     }

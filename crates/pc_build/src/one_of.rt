@@ -22,7 +22,12 @@ pub fn takes_one_of(store: &mut Store, variable: u32, values: &[u32]) -> Result<
 }
 
 /// The words of a layer that take one of these values at a variable, which is counted from the first layer.
-pub(crate) fn takes_one_from(store: &mut Store, layer: u32, variable: u32, values: &[u32]) -> Result<Id, NoMemory>
+pub(crate) fn takes_one_from(
+    store: &mut Store,
+    layer: u32,
+    variable: u32,
+    values: &[u32],
+) -> Result<Id, NoMemory>
     requires order { layer ≤ variable }
     requires inner { variable < length (domains_of store.old) }
     ensures is_id { IfOk result (IsIdAt store.new layer) }

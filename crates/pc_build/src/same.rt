@@ -16,7 +16,12 @@ use pc_store::{Id, Store};
 
 /// The words whose values at two variables have the same name. The variables may be one, which gives all words. Want of
 /// memory leaves the store as it was but for more nodes.
-pub fn same_names(store: &mut Store, variables: &[Variable], variable: u32, other: u32) -> Result<Id, NoMemory>
+pub fn same_names(
+    store: &mut Store,
+    variables: &[Variable],
+    variable: u32,
+    other: u32,
+) -> Result<Id, NoMemory>
     requires domains { domains_of store.old ≡ value_counts variables.now }
     requires first { variable < length (domains_of store.old) }
     requires second { other < length (domains_of store.old) }

@@ -13,7 +13,11 @@ use pc_store::{Id, Store};
 
 /// The words that take the values of some row at the table's variables, which may stand in any order. Want of memory
 /// leaves the store as it was but for more nodes.
-pub fn rows_of_table(store: &mut Store, variables: &[u32], rows: &[Sequence<u32>]) -> Result<Id, NoMemory>
+pub fn rows_of_table(
+    store: &mut Store,
+    variables: &[u32],
+    rows: &[Sequence<u32>],
+) -> Result<Id, NoMemory>
     requires { All (λ variable. variable < length (domains_of store.old)) variables.now }
     ensures is_id { IfOk result (IsIdAt store.new 0) }
     ensures set { IfOk result (λ id. (word : List ℕ) → has store.new id word ≡ (is_word (domains_of store.old) word && list_any (row_fits word variables.now) rows.now)) }

@@ -1,4 +1,4 @@
-use Rattle.std.proofs.Common.{◌≡◌, ◌∙◌, ◌&&◌, ◌+◌, ◌-◌, ◌<◌, ℕ, nat_eq, List, length, get_or, ap, sym, drop, arith}
+use Rattle.std.proofs.Common.{◌≡◌, ◌∙◌, ◌&&◌, ◌+◌, ◌-◌, ◌<◌, ℕ, List, length, get_or, ap, sym, drop, arith}
 use Rattle.std.specs.List.{list_any}
 use Rattle.std.proofs.lemmas.List.{get_or-drop, drop-drop, length-drop}
 use Rattle.pc_diagram.specs.Words.{is_word}
