@@ -1,7 +1,8 @@
 -- Nodes that lead on to one set.
-use Rattle.std.proofs.Common.{◌≡◌, ℕ, ◌+◌, ◌<◌, ◌≤◌, nat_lt, nat_eq, Bool, true, false, ◌&&◌, cond, List, [], ◌∷◌, take, drop, replicate, length, get_or, slice_get, set, Some, All, inl, inr, get_or-set_same, get_or-set_other, refl, sym, ap, ◌∙◌, subst, arith}
-use Rattle.std.proofs.lemmas.Bool.{ltb-true, ltb-false, cases_eq}
-use Rattle.std.proofs.lemmas.List.{length-take-le, length-replicate, length-set, get_or-take, get_or-replicate, drop_more}
+use Rattle.std.proofs.Common.{◌≡◌, ℕ, ◌+◌, ◌<◌, ◌≤◌, nat_lt, nat_eq, Bool, true, false, ◌&&◌, ◌||◌, cond, List, [], ◌∷◌, ◌++◌, take, drop, replicate, length, get_or, slice_get, set, Some, All, inl, inr, get_or-set_same, get_or-set_other, refl, sym, ap, ◌∙◌, subst, arith}
+use Rattle.std.proofs.lemmas.Bool.{ltb-true, ltb-false, cases_eq, eq-eqb, ne_eqb, or_right}
+use Rattle.std.proofs.lemmas.List.{length-take-le, length-replicate, length-set, get_or-take, get_or-replicate, drop_more, take_more, take_all}
+use Rattle.std.proofs.lemmas.List.Folds.{list_any-append}
 use Rattle.std.proofs.lemmas.Option.{slice_get-get_or, slice_get_past, get_or_from_slice_get}
 use Rattle.std.specs.List.{list_any}
 use Rattle.pc_diagram.specs.Words.{is_word}
@@ -39,47 +40,54 @@ first_children test below other count more children le h = record {
     inside : count ≤ length children
     inside = let w = h.width in omega arith
 
--- how far children are filled in
-pub record Filled (test : ℕ → Bool) (below other : Id) (count done : ℕ) (children : List Id) : Type 0 where
-  pub width : length children ≡ count
-  pub before : (k : ℕ) → k < done → get_or children k below ≡ cond (test k) below other
-  pub after : (k : ℕ) → done ≤ k → k < count → get_or children k below ≡ other
+-- whether a value is among the first of these
+abbrev pub among_first : List ℕ → ℕ → ℕ → Bool
+among_first chosen count value = list_any (nat_eq value) (take count chosen)
 
-pub filled_none : (test : ℕ → Bool) (below other : Id) (count : ℕ) → Filled test below other count 0 (replicate count other)
-filled_none test below other count = record {
+-- one value more was chosen
+module _ (chosen : List ℕ) (i value : ℕ) (below other : Id) (count : ℕ) (children : List Id) (lt : i < length chosen) (read : value ≡ get_or chosen i value) (h : Children (among_first chosen i) below other count children) where
+  one_more : (k : ℕ) → among_first chosen (i + 1) k ≡ (among_first chosen i k || (nat_eq k value || false))
+  one_more k = ap (list_any (nat_eq k)) (take_more chosen i value lt ∙ ap (λ v. take i chosen ++ v ∷ []) (sym read)) ∙ list_any-append (nat_eq k) (take i chosen) (value ∷ [])
+
+  itself : (k : ℕ) → k ≡ value → among_first chosen (i + 1) k ≡ true
+  itself k same = one_more k ∙ or_right (among_first chosen i k) (nat_eq k value || false) (ap (λ b. b || false) (eq-eqb k value same))
+
+  another : (k : ℕ) → (k ≡ value → ⊥) → among_first chosen (i + 1) k ≡ among_first chosen i k
+  another k differs = one_more k ∙ ap (λ b. among_first chosen i k || (b || false)) (ne_eqb k value differs) ∙ or_false (among_first chosen i k)
+    where
+      or_false : (b : Bool) → (b || false) ≡ b
+      or_false true = refl
+      or_false false = refl
+
+  pub chosen_one : value < count → Children (among_first chosen (i + 1)) below other count (set children value below)
+  chosen_one inside = record {
+    width = length-set children value below ∙ h.width;
+    each = λ k under.
+        let there : k < length (set children value below) = (let w = h.width in omega (arith, length-set children value below)) in
+        slice_get-get_or (set children value below) k below there ∙ ap Some (elim (cases_eq k value) [
+          | inl same ↦ ap (λ j. get_or (set children value below) j below) same ∙ get_or-set_same children value below below (let w = h.width in omega arith) ∙ ap (λ b. cond b below other) (sym (itself k same))
+          | inr differs ↦ get_or-set_other children value k below below differs ∙ get_or_from_slice_get children k (cond (among_first chosen i k) below other) below (h.each k under) ∙ ap (λ b. cond b below other) (sym (another k differs))
+        ]);
+  }
+
+  pub chosen_past : count ≤ value → Children (among_first chosen (i + 1)) below other count children
+  chosen_past past = record {
+    width = h.width;
+    each = λ k under. h.each k under ∙ ap (λ b. Some (cond b below other)) (sym (another k (λ same. omega arith)));
+  }
+
+-- no value is chosen
+pub chosen_none : (chosen : List ℕ) (below other : Id) (count : ℕ) → Children (among_first chosen 0) below other count (replicate count other)
+chosen_none chosen below other count = record {
   width = length-replicate count other;
-  before = λ k lt. absurd (omega arith);
-  after = λ k _ lt. get_or-replicate count k other below lt;
+  each = λ value lt. slice_get-get_or (replicate count other) value below (omega (arith, length-replicate count other)) ∙ ap Some (get_or-replicate count value other below lt);
 }
 
--- one child more
-pub filled_one : (test : ℕ → Bool) (below other : Id) (count done : ℕ) (children : List Id) → done < count → Filled test below other count done children → test done ≡ true → Filled test below other count (done + 1) (set children done below)
-filled_one test below other count done children lt h here = record {
-  width = length-set children done below ∙ h.width;
-  before = λ k under. elim (cases_eq k done) [
-    | inl same ↦ ap (λ j. get_or (set children done below) j below) same ∙ get_or-set_same children done below below inside ∙ ap (λ b. cond b below other) (sym here) ∙ ap (λ j. cond (test j) below other) (sym same)
-    | inr differs ↦ get_or-set_other children done k below below differs ∙ h.before k (omega arith)
-  ];
-  after = λ k over within. get_or-set_other children done k below below (λ same. omega arith) ∙ h.after k (omega arith) within;
-}
-  where
-    inside : done < length children
-    inside = let w = h.width in omega arith
-
-pub filled_skip : (test : ℕ → Bool) (below other : Id) (count done : ℕ) (children : List Id) → done < count → Filled test below other count done children → test done ≡ false → Filled test below other count (done + 1) children
-filled_skip test below other count done children lt h here = record {
+-- all are
+pub chosen_all : (chosen : List ℕ) (i : ℕ) (below other : Id) (count : ℕ) (children : List Id) → length chosen ≤ i → Children (among_first chosen i) below other count children → Children (λ value. list_any (nat_eq value) chosen) below other count children
+chosen_all chosen i below other count children past h = record {
   width = h.width;
-  before = λ k under. elim (cases_eq k done) [
-    | inl same ↦ ap (λ j. get_or children j below) same ∙ h.after done (omega arith) lt ∙ ap (λ b. cond b below other) (sym here) ∙ ap (λ j. cond (test j) below other) (sym same)
-    | inr differs ↦ h.before k (omega arith)
-  ];
-  after = λ k over within. h.after k (omega arith) within;
-}
-
-pub filled_all : (test : ℕ → Bool) (below other : Id) (count done : ℕ) (children : List Id) → count ≤ done → Filled test below other count done children → Children test below other count children
-filled_all test below other count done children ge h = record {
-  width = h.width;
-  each = λ value lt. slice_get-get_or children value below (let w = h.width in omega arith) ∙ ap Some (h.before value (omega arith));
+  each = λ value lt. h.each value lt ∙ ap (λ l. Some (cond (list_any (nat_eq value) l) below other)) (take_all i chosen past);
 }
 
 -- the same child everywhere

@@ -74,16 +74,11 @@ fn children_of(chosen: &[u32], below: Id, other: Id) -> [Id; MOST_VALUES]
     ensures { Children (λ value. list_any (nat_eq value) chosen.now) below other 64 result }
 {
     let mut children = [other; MOST_VALUES];
-    for value in 0..MOST_VALUES {
-        if is_among(value as u32, chosen) {
-            children[value] = below;
+    for value in chosen {
+        let place = *value as usize;
+        if place < MOST_VALUES {
+            children[place] = below;
         }
     }
     children
-}
-
-fn is_among(value: u32, chosen: &[u32]) -> bool
-    ensures { result ≡ list_any (nat_eq value) chosen.now }
-{
-    chosen.iter().any(|choice| *choice == value)
 }

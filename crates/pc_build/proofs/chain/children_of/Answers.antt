@@ -1,20 +1,24 @@
-use Rattle.std.proofs.Common.{◌∙◌, ◌+◌, ℕ, nat_eq, arith, sym, subst}
-use Rattle.std.specs.List.{list_any}
-use Rattle.pc_build.proofs.ChainLemmas.{Filled, filled_none, filled_one, filled_skip, filled_all}
+use Rattle.std.proofs.Common.{◌≡◌, ◌+◌, get_or, subst, sym}
+use Rattle.std.proofs.lemmas.List.{get_or_default}
+use Rattle.pc_build.specs.Chains.{Children}
+use Rattle.pc_build.proofs.ChainLemmas.{among_first, chosen_none, chosen_one, chosen_past, chosen_all}
 use Rattle.pc_build.proofs.chain.children_of.Goals as goal
-use Rattle.pc_build.proofs.chain.children_of.Goals.{then-is_among, else-is_among}
+use Rattle.pc_build.proofs.chain.children_of.Goals.{then-place-lt-MOST_VALUES, else-place-lt-MOST_VALUES}
 
 pub loop-value-init : goal.loop-value-init
-loop-value-init c = filled_none (λ value. list_any (nat_eq value) c.args.chosen.now) c.args.below c.args.other 64
+loop-value-init c = chosen_none c.args.chosen.now c.args.below c.args.other 64
 
 pub loop-value-preserved : goal.loop-value-preserved
 loop-value-preserved c =
-    let test = λ (value : ℕ). list_any (nat_eq value) c.args.chosen.now in
-    let next = Filled test c.args.below c.args.other 64 (c.loop-value.value + 1) in
-    elim c.if-is_among.branch [
-      | then-is_among w ↦ subst next (sym w.children-is) (filled_one test c.args.below c.args.other 64 c.loop-value.value c.loop-value.children c.loop-value-test.true c.loop-value.invariant (sym c.is_among.ensures ∙ w.if-is_among.true))
-      | else-is_among w ↦ subst next (sym w.children-is) (filled_skip test c.args.below c.args.other 64 c.loop-value.value c.loop-value.children c.loop-value-test.true c.loop-value.invariant (sym c.is_among.ensures ∙ w.if-is_among.false))
+    let chosen = c.args.chosen.now in
+    let i = c.loop-value.value-index in
+    let value = get_or chosen i 0 in
+    let read : value ≡ get_or chosen i value = get_or_default chosen i 0 value c.loop-value-test.true in
+    let next = Children (among_first chosen (i + 1)) c.args.below c.args.other 64 in
+    elim c.if-place-lt-MOST_VALUES.branch [
+      | then-place-lt-MOST_VALUES w ↦ subst next (sym w.children-is) (chosen_one chosen i value c.args.below c.args.other 64 c.loop-value.children c.loop-value-test.true read c.loop-value.invariant w.if-place-lt-MOST_VALUES.true)
+      | else-place-lt-MOST_VALUES w ↦ subst next (sym w.children-is) (chosen_past chosen i value c.args.below c.args.other 64 c.loop-value.children c.loop-value-test.true read c.loop-value.invariant w.if-place-lt-MOST_VALUES.false)
     ]
 
 pub returns : goal.returns
-returns c = filled_all (λ value. list_any (nat_eq value) c.args.chosen.now) c.args.below c.args.other 64 c.loop-value.value c.loop-value.children (omega arith) c.loop-value.invariant
+returns c = chosen_all c.args.chosen.now c.loop-value.value-index c.args.below c.args.other 64 c.loop-value.children c.loop-value-test.false c.loop-value.invariant
