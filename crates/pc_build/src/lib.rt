@@ -13,3 +13,6 @@ mod table;
 pub use one_of::takes_one_of;
 pub use same::same_names;
 pub use table::rows_of_table;
+
+#[cfg(test)]
+mod tests;
