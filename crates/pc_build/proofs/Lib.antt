@@ -1,0 +1,5 @@
+pub mod ChainLemmas
+pub mod DemandLemmas
+pub mod NamedLemmas
+pub mod SameLemmas
+pub mod WordLemmas
