@@ -15,6 +15,7 @@ use Rattle.pc_file.specs.PrintedForm.{header_line, cost_line, variable_lines, li
 use Rattle.pc_file.specs.PrintedSize.{is_short_line, IsPrintable}
 use Rattle.pc_diagram.specs.Words.{all_words}
 use Rattle.pc_file.specs.Products.{value_counts, obeys, products}
+use Rattle.pc_file.specs.Parts.{Parts, with_itself, parts_step, compile_list}
 use Rattle.pc_file.specs.Bike.{bike, bike_printed}
 
 -- any fold of the two rules, layer by layer
@@ -126,3 +127,13 @@ bike_is_file = record {
   each_rule = bike_rules;
   printable = bike_printable;
 }
+
+-- how many sets are made of each rule: those of its parts, and of the rules so far
+pub bike_parts : map length (compile_list bike) ≡ 4 ∷ 5 ∷ []
+bike_parts = λ i. length (with_itself (at_first Parts (parts_step bike.variables) i) ++ first ∷ []) ∷ length (with_itself (at_second Parts (parts_step bike.variables) i) ++ both ∷ []) ∷ []
+  where
+    first : List ℕ → Bool
+    first word = true && holds bike.variables word (Implies (Is 0 2) (Is 1 1))
+
+    both : List ℕ → Bool
+    both word = first word && holds bike.variables word (Not (And (Is 0 0 ∷ Is 2 1 ∷ [])))

@@ -8,3 +8,5 @@ pub mod ZipLemmas
 pub mod PositionLemmas
 pub mod BikeLemmas
 pub mod WordLemmas
+pub mod RuleInduction
+pub mod PartLemmas

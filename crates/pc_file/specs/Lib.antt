@@ -10,6 +10,7 @@ pub mod Limits
 pub mod Positions
 pub mod WordOrder
 pub mod Products
+pub mod Parts
 pub mod Costs
 pub mod ListingText
 pub mod Bike

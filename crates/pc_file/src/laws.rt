@@ -1,7 +1,7 @@
 //! Laws of the definitions. Each function's contract is a law; nothing calls them.
 
-ghost use Rattle.std.specs.Prelude.{◌≡◌, ◌≢◌, ◌↔◌, ℕ, List, [], true, Contains, Some, slice_get};
-ghost use Rattle.std.specs.List.{AllPairs};
+ghost use Rattle.std.specs.Prelude.{◌≡◌, ◌≢◌, ◌↔◌, ℕ, Bool, List, [], ◌∷◌, ◌++◌, true, map, length, Contains, Some, slice_get};
+ghost use Rattle.std.specs.List.{AllPairs, flat_map};
 ghost use Rattle.pc_diagram.specs.Bike.{bike_costs, bikes, open_listing};
 ghost use Rattle.pc_diagram.specs.Bounds.{no_bounds};
 ghost use Rattle.pc_diagram.specs.Words.{is_word};
@@ -14,6 +14,9 @@ ghost use Rattle.pc_file.specs.ListingText.{listing_text};
 ghost use Rattle.pc_file.specs.PrintedForm.{printed};
 ghost use Rattle.pc_file.specs.Positions.{variable_named, value_named};
 ghost use Rattle.pc_file.specs.WordOrder.{is_before};
+ghost use Rattle.pc_file.specs.declared.rule.Rule.{Rule};
+ghost use Rattle.pc_file.specs.Rule.{holds};
+ghost use Rattle.pc_file.specs.Parts.{members_of, parts_before, parts_of, compile_list};
 ghost use Rattle.pc_file.specs.Bike.{bike, bike_text, bike_printed};
 
 /// The worked example, by evaluation: it keeps all limits, these are its products, this is the text of what is
@@ -25,6 +28,8 @@ pub fn bike_has_eight_products()
     ensures listing { file_listing bike [] no_bounds ≡ open_listing }
     ensures text { listing_text bike.variables open_listing ≡ bike_text }
     ensures printed { printed bike ≡ bike_printed }
+    // The first rule has three parts and the second four, and after each stands the set of the rules so far.
+    ensures parts { map length (compile_list bike) ≡ 4 ∷ 5 ∷ [] }
 {}
 
 /// The products of a file are exactly the words, with a value of each variable, for which every rule holds. Each
@@ -43,4 +48,10 @@ pub fn names_have_first_places()
     ensures values { (file : Contents) (place : ℕ) (variable : Variable) (name : List ℕ)
         → slice_get file.variables place ≡ Some variable
         → IsFirstPlace (value_names variable) name (value_named file place name) }
+{}
+
+/// The parts of a rule are those of its subrules, one after another, and then the rule itself.
+pub fn parts_end_with_the_rule()
+    ensures subrules { (variables : List Variable) (rule : Rule) → parts_before variables rule ≡ flat_map (parts_of variables) (members_of rule) }
+    ensures last { (variables : List Variable) (rule : Rule) → parts_of variables rule ≡ parts_before variables rule ++ (λ word. holds variables word rule) ∷ [] }
 {}

@@ -21,7 +21,8 @@ pub use catalogue::Catalogue;
 pub use file::{File, FileFault};
 pub use holding::holds;
 pub use laws::{
-    bike_has_eight_products, names_have_first_places, products_are_the_words_that_obey,
+    bike_has_eight_products, names_have_first_places, parts_end_with_the_rule,
+    products_are_the_words_that_obey,
 };
 pub use limits::is_reserved;
 pub use listing::{costs_of, listing_over, plain_listing};

@@ -18,7 +18,6 @@ pub mod PrintedTokens
 pub mod Positions
 pub mod Readers
 pub mod RuleFolds
-pub mod RuleInduction
 pub mod RuleRead
 pub mod Shallow
 pub mod Spelled

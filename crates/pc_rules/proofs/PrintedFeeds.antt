@@ -20,7 +20,7 @@ use Rattle.pc_rules.proofs.PrintedForms.{join_by-map, printed-And, printed-Or, p
 use Rattle.pc_rules.proofs.PrintedTokens.{is_word, name-word, names-words, number-word}
 use Rattle.pc_rules.proofs.PrintedNames as printed
 use Rattle.pc_rules.proofs.RuleFolds as of_rule
-use Rattle.pc_rules.proofs.RuleInduction.{EachRule, every_rule}
+use Rattle.pc_file.proofs.RuleInduction.{EachRule, every_rule}
 
 no_feed : (byte : ℕ) → is_name_byte byte ≡ true → is_feed byte ≡ false
 no_feed byte in_word = by (byte == 10) refl

@@ -12,7 +12,7 @@ use Rattle.pc_file.proofs.RuleLemmas.{is_spelled-And, is_spelled-Or, is_spelled-
 use Rattle.pc_rules.specs.RuleFaults.{repeat_step, has_repeat}
 use Rattle.pc_rules.proofs.PhraseLemmas.{has_repeat-And, has_repeat-Or, has_repeat-AtMost}
 use Rattle.pc_rules.proofs.RuleFolds as of_rule
-use Rattle.pc_rules.proofs.RuleInduction.{EachRule, every_rule}
+use Rattle.pc_file.proofs.RuleInduction.{EachRule, every_rule}
 
 module _ (variables : List Variable) where
   abbrev Once : Rule → Type 0

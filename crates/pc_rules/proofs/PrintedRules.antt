@@ -40,7 +40,7 @@ use Rattle.pc_rules.proofs.PrintedForms.{join_by-map}
 use Rattle.pc_rules.proofs.PrintedTokens.{Cuts, CutsAlways, Ends, is_word, cuts-always, always-cuts, cuts-always-cuts, cuts-cuts, cuts-word, cuts-words, cuts-spaced, cuts-joined, cuts-equal, cuts-not_equal, cuts-and, cuts-or, cuts-arrow, cuts-not, cuts-comma, cuts-open, cuts-close, cuts-in, cuts-close_brace, cuts-same, cuts-at_most, cuts-members, cuts-table, cuts-rows, name-word, names-words, number-word}
 use Rattle.pc_rules.proofs.PrintedDepth.{flat-token, flat-parentheses, flat-append, flat-plain, EachFlat, flat-parted, plain-words, plain-rows, plain-balanced}
 use Rattle.pc_rules.proofs.PrintedNames as printed
-use Rattle.pc_rules.proofs.RuleInduction.{EachRule, every_rule}
+use Rattle.pc_file.proofs.RuleInduction.{EachRule, every_rule}
 
 module _ (names : Catalogue) (variables : List Variable) (holds : HoldsNames names variables) (are : Nameable variables) where
   -- a text spells a rule in a place, and opens at most so many parentheses at once

@@ -4,7 +4,7 @@ use Rattle.pc_diagram.specs.Bounds.{no_bounds}
 use Rattle.pc_diagram.specs.Listing.{listing}
 use Rattle.pc_file.specs.Costs.{costs_of}
 use Rattle.pc_file.specs.Bike.{bike}
-use Rattle.pc_file.proofs.BikeLemmas.{bike_is_file, bike_products, bike_text}
+use Rattle.pc_file.proofs.BikeLemmas.{bike_is_file, bike_parts, bike_products, bike_text}
 use Rattle.pc_file.proofs.laws.bike_has_eight_products.Goals as goal
 
 pub returns-clause-limits : goal.returns-clause-limits
@@ -22,3 +22,6 @@ returns-clause-text c = refl
 
 pub returns-clause-printed : goal.returns-clause-printed
 returns-clause-printed c = bike_text
+
+pub returns-clause-parts : goal.returns-clause-parts
+returns-clause-parts c = bike_parts
