@@ -1,16 +1,29 @@
-//! The compiler from rules to diagrams. For each form of rule that has no subrules it answers the set of exactly the
-//! words for which the rule holds, by the definition of `pc_file`. All other sets of the store stay as they were, also
-//! where memory is wanting.
+//! The compiler from rules to diagrams. `diagram_of_products` answers the canonical diagram of a file's products, or says
+//! exactly which set on the way is the first that is too large, or that there is no product. The sets are made in a
+//! store, part by part, by the definition of when a rule holds.
 #![tactic(auto)]
 
+mod building;
 mod chain;
 mod demand;
+mod edges;
+mod extract;
+mod fault;
+mod joined;
 mod named;
 mod one_of;
+mod over_subrules;
+mod parts;
+mod products;
+mod rules;
 mod same;
 mod table;
+mod tables;
 
+pub use building::diagram_of_products;
+pub use fault::BuildFault;
 pub use one_of::takes_one_of;
+pub use products::{ProductSet, set_of_products};
 pub use same::same_names;
 pub use table::rows_of_table;
 

@@ -4,9 +4,11 @@ ghost use Rattle.pc_file.specs.Products.{value_counts};
 
 use super::*;
 use pc_base::{NoMemory, Sequence};
-use pc_file::{Value, Variable};
+use pc_diagram::Diagram;
+use pc_file::{File, Rule, Value, Variable};
 use pc_names::Name;
 use pc_store::{Id, Store};
+use sqlite_items::{Boxed, Items};
 use std::alloc::Global;
 use std::test::Fail;
 
@@ -164,5 +166,72 @@ fn same_names_of_one_variable(rt: HostRuntime) -> Result<(), Fail> {
         same_names(&mut store, variables.as_slice(), 1, 1)?,
         store.full(0)
     );
+    Ok(())
+}
+
+/// The names of a variable and of its values.
+type Spelt<'a> = (&'a [u8], &'a [&'a [u8]]);
+
+const BIKE: &[Spelt<'static>] = &[
+    (b"frame", &[b"steel", b"alloy", b"carbon"]),
+    (b"wheel", &[b"w26", b"w28"]),
+    (b"light", &[b"none", b"led"]),
+];
+
+/// A file of one cost whose variables and values have these names.
+fn file_of(alloc: Global, spelt: &[Spelt], rules: Sequence<Rule>) -> Result<File, Fail> {
+    let mut costs = Sequence::new(alloc);
+    costs.push(Name::read(b"price")?)?;
+    let mut variables = Sequence::new(alloc);
+    for (name, values) in spelt {
+        variables.push(variable(alloc, name, values)?)?;
+    }
+    Ok(File::new(alloc, costs, variables, rules)?)
+}
+
+fn is(variable: u32, value: u32) -> Rule {
+    Rule::Is { variable, value }
+}
+
+/// Carbon frames have the second wheel, and steel frames no light.
+fn bike_rules(alloc: Global) -> Result<Sequence<Rule>, Fail> {
+    let mut both = Items::new(alloc);
+    both.push(is(0, 0))?;
+    both.push(is(2, 1))?;
+    let mut rules = Sequence::new(alloc);
+    rules.push(Rule::Implies(Boxed::new(alloc, is(0, 2))?, Boxed::new(alloc, is(1, 1))?))?;
+    rules.push(Rule::Not(Boxed::new(alloc, Rule::And(both))?))?;
+    Ok(rules)
+}
+
+/// How many nodes each layer has.
+fn sizes(alloc: Global, diagram: &Diagram) -> Result<Sequence<u32>, Fail> {
+    let mut sizes = Sequence::new(alloc);
+    for layer in 0..=diagram.domains().len() {
+        sizes.push(diagram.nodes(layer as u32))?;
+    }
+    Ok(sizes)
+}
+
+#[test]
+fn the_diagram_of_the_bike(rt: HostRuntime) -> Result<(), Fail> {
+    let alloc = rt.alloc();
+    let file = file_of(alloc, BIKE, bike_rules(alloc)?)?;
+    let diagram = diagram_of_products(alloc, &file)?;
+    assert_eq!(rt; sizes(alloc, &diagram)?.as_slice(), [1, 3, 2, 1].as_slice());
+    Ok(())
+}
+
+#[test]
+fn rules_that_no_word_obeys(rt: HostRuntime) -> Result<(), Fail> {
+    let alloc = rt.alloc();
+    let mut rules = bike_rules(alloc)?;
+    rules.push(is(0, 0))?;
+    rules.push(is(2, 1))?;
+    let file = file_of(alloc, BIKE, rules)?;
+    match diagram_of_products(alloc, &file) {
+        Err(fault) => assert_eq!(rt; fault, BuildFault::NoProduct),
+        Ok(_) => assert!(rt; false, "there is no product"),
+    }
     Ok(())
 }

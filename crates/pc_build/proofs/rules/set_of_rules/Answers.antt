@@ -1,0 +1,38 @@
+use Rattle.std.proofs.Common.{◌&&◌, ◌+◌, ◌++◌, ◌∷◌, [], ℕ, Bool, List, sym, subst, arith}
+use Rattle.pc_store.proofs.SetLemmas.{keeps_same, keeps_then}
+use Rattle.pc_file.specs.Products.{value_counts}
+use Rattle.pc_file.specs.Rule.{holds}
+use Rattle.pc_file.specs.Parts.{parts_of}
+use Rattle.pc_build.specs.Making.{StopsAt, Stopped}
+use Rattle.pc_build.specs.Building.{IsLimit}
+use Rattle.pc_build.proofs.JoinedLemmas.{full_denotes, joined_none, joined_more, limit_at}
+use Rattle.pc_build.proofs.SpelledLemmas.{one_spelled}
+use Rattle.pc_build.proofs.rules.set_of_rules.Goals as goal
+
+pub loop-place-init : goal.loop-place-init
+loop-place-init c = record {
+  joined = joined_none c.args.store.now c.args.variables.now c.args.rules.now c.full-set.result (full_denotes c.args.store.now c.full-set.result c.full-set.ensures.is_id c.full-set.ensures.set);
+  keeps = keeps_same c.args.store.now;
+}
+
+pub join_rule-requires-clause-spelled : goal.join_rule-requires-clause-spelled
+join_rule-requires-clause-spelled c = one_spelled c.args.variables.now c.args.rules.now c.loop-place.place c.index-rules-place.result c.requires.spelled (let low = c.loop-place-test.true in omega arith) c.index-rules-place.is
+
+pub returns-in-Err-TooLarge-clause-fault : goal.returns-in-Err-TooLarge-clause-fault
+returns-in-Err-TooLarge-clause-fault c =
+    let joined = c.loop-place.invariant.joined in
+    let made = c.in-Err-TooLarge.ensures.made joined.obeys joined.denotes in
+    let rule = c.index-rules-place.result in
+    let sets : List (List ℕ → Bool) = parts_of c.args.variables.now rule ++ (λ word. joined.obeys word && holds c.args.variables.now word rule) ∷ [] in
+    let stops : StopsAt (value_counts c.args.variables.now) sets 0 c.in-Err-TooLarge.part = subst (Stopped (value_counts c.args.variables.now) sets 0) c.in-Err-TooLarge.field-0-is made.1 in
+    subst (IsLimit c.args.variables.now c.args.rules.now (c.loop-place.place + 1)) (sym c.in-Err-TooLarge.part-is)
+    (limit_at c.loop-place.store c.args.variables.now c.args.rules.now c.loop-place.place c.loop-place.set rule joined (let low = c.loop-place-test.true in omega arith) c.index-rules-place.is c.in-Err-TooLarge.part stops)
+
+pub loop-place-preserved : goal.loop-place-preserved
+loop-place-preserved c =
+    let joined = c.loop-place.invariant.joined in
+    let made = c.in-Ok.ensures.made joined.obeys joined.denotes in
+    record {
+      joined = joined_more c.loop-place.store c.args.variables.now c.args.rules.now c.loop-place.place c.loop-place.set c.index-rules-place.result joined (let low = c.loop-place-test.true in omega arith) c.index-rules-place.is c.join_rule.new.store made.0 c.in-Ok.both made.1 (c.in-Ok.ensures.set joined.obeys joined.denotes);
+      keeps = keeps_then c.args.store.now c.loop-place.store c.join_rule.new.store c.loop-place.invariant.keeps c.join_rule.ensures.keeps;
+    }

@@ -1,0 +1,57 @@
+//! The set of a file's products.
+
+ghost use Rattle.std.specs.Prelude.{◌≡◌, ◌≢◌, ◌≤◌, [], ℕ, IfOk, IfErr};
+ghost use Rattle.pc_diagram.specs.Rests.{size};
+ghost use Rattle.pc_store.specs.Sets.{domains_of, has};
+ghost use Rattle.pc_file.specs.Products.{value_counts, obeys, products};
+ghost use Rattle.pc_file.specs.Parts.{HasNoNodeLimit};
+ghost use Rattle.pc_build.specs.Making.{Denotes};
+ghost use Rattle.pc_build.specs.Building.{IsBuildFault};
+
+use crate::fault::BuildFault;
+use crate::rules::set_of_rules;
+use pc_base::{NoMemory, Sequence};
+use pc_file::{File, Variable};
+use pc_store::{Id, Store};
+use std::alloc::Global;
+
+/// A store over the numbers of values of a file's variables, and in it the set of the file's products.
+#[derive(Debug, Drop)]
+pub struct ProductSet {
+    pub store: Store,
+    pub set: Id,
+}
+
+/// The set of a file's products. It is made rule by rule, part by part.
+///
+/// # Errors
+///
+/// The first set on the way that is too large; else that there is no product; or want of memory, which may come in any
+/// case.
+pub fn set_of_products(alloc: Global, file: &File) -> Result<ProductSet, BuildFault>
+    ensures domains { IfOk result (λ made. domains_of made.store ≡ value_counts file.now.variables) }
+    ensures set { IfOk result (λ made. Denotes made.store (obeys file.now) made.set) }
+    ensures nodes { IfOk result (λ made. size (domains_of made.store) (has made.store made.set) ≤ 262144) }
+    ensures some { IfOk result (λ _. products file.now ≢ []) }
+    ensures small { IfOk result (λ _. HasNoNodeLimit file.now) }
+    ensures fault { IfErr result (IsBuildFault file.now) }
+{
+    let domains = domains_of(alloc, file.variables())?;
+    let mut store = Store::new(alloc, domains.as_slice())?;
+    let set = set_of_rules(&mut store, file.variables(), file.rules())?;
+    if store.same_set(set, store.empty(0)) {
+        return Err(BuildFault::NoProduct);
+    }
+    Ok(ProductSet { store, set })
+}
+
+/// How many values each variable has.
+fn domains_of(alloc: Global, variables: &[Variable]) -> Result<Sequence<u32>, NoMemory>
+    ensures { IfOk result (λ domains. domains ≡ value_counts variables.now) }
+{
+    let mut domains = Sequence::with_capacity(alloc, variables.len())?;
+    for variable in variables {
+        domains.push(u32::try_from(variable.values.len()).map_err(|_| NoMemory)?)?;
+    }
+    Ok(domains)
+}
