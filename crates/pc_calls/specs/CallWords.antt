@@ -6,10 +6,10 @@ use Rattle.pc_names.specs.Name.{is_name}
 use Rattle.pc_calls.specs.declared.call.Call.TheVariants.{Enter, Open, Show, Choose, Retract, Bound, Unbound, Rebase, Close, Publish, Reclaim, Versions, Leave}
 use Rattle.pc_calls.specs.declared.line_call.LineCall.{LineCall}
 use Rattle.pc_calls.specs.declared.line_call.LineCall.TheVariants.{Whole, PublishHead}
-use Rattle.pc_calls.specs.LineWords.{Word}
+use Rattle.pc_calls.specs.LineWords.{LineWord}
 
 -- words without their places
-abbrev pub spellings : List Word → List (List ℕ)
+abbrev pub spellings : List LineWord → List (List ℕ)
 spellings words = map (λ word. word.bytes) words
 
 -- a command and its arguments, with each number in its one spelling; no line says an enter, or a publish with its file

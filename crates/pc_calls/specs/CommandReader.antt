@@ -4,11 +4,11 @@ use Rattle.pc_names.specs.Name.{is_name}
 use Rattle.pc_names.specs.Number.{int_of}
 use Rattle.pc_names.specs.Spelling.{same_spelling}
 use Rattle.pc_calls.specs.declared.bad_column.BadColumn.{BadColumn}
-use Rattle.pc_calls.specs.LineWords.{Word, words_from}
+use Rattle.pc_calls.specs.LineWords.{LineWord, words_from}
 
 -- the words that are left to be read, and the length of their line
 pub record Rest : Type 0 where
-  pub words : List Word
+  pub words : List LineWord
   pub line_length : ℕ
 
 -- the words of a line from a byte on
@@ -16,7 +16,7 @@ abbrev pub rest_of : List ℕ → ℕ → Rest
 rest_of line from = record { words = words_from line from; line_length = length line }
 
 -- the column of a wrong word: the place of its first byte, counted from 1
-abbrev pub wrong : Word → BadColumn
+abbrev pub wrong : LineWord → BadColumn
 wrong word = record { column = word.place + 1 }
 
 -- the column where a word is missing: right after the line
@@ -43,11 +43,11 @@ abbrev pub pure : {A : Type 0} → A → Reader A
 pure value = λ rest. Ok (value, rest)
 
 -- what a word says, if it says something
-abbrev pub said : {A : Type 0} → Option A → Word → Rest → Result (A × Rest) BadColumn
+abbrev pub said : {A : Type 0} → Option A → LineWord → Rest → Result (A × Rest) BadColumn
 said (Some value) word rest = Ok (value, rest)
 said None word rest = Err (wrong word)
 
-abbrev pub first_of : {A : Type 0} → (List ℕ → Option A) → List Word → ℕ → Result (A × Rest) BadColumn
+abbrev pub first_of : {A : Type 0} → (List ℕ → Option A) → List LineWord → ℕ → Result (A × Rest) BadColumn
 first_of kind [] line_length = Err (missing line_length)
 first_of kind (word ∷ words) line_length = said (kind word.bytes) word (record { words = words; line_length = line_length })
 
@@ -56,7 +56,7 @@ unfoldable pub word_of_kind : {A : Type 0} → (List ℕ → Option A) → Reade
 word_of_kind kind rest = first_of kind rest.words rest.line_length
 
 -- no word may come next
-abbrev pub none_of : List Word → Rest → Result (Unit {0} × Rest) BadColumn
+abbrev pub none_of : List LineWord → Rest → Result (Unit {0} × Rest) BadColumn
 none_of [] rest = Ok (tt, rest)
 none_of (word ∷ words) rest = Err (wrong word)
 
@@ -64,7 +64,7 @@ unfoldable pub end : Reader (Unit {0})
 end rest = none_of rest.words rest
 
 -- this word may come next, or none
-abbrev pub this_or_none : List ℕ → List Word → Rest → Result (Bool × Rest) BadColumn
+abbrev pub this_or_none : List ℕ → List LineWord → Rest → Result (Bool × Rest) BadColumn
 this_or_none spelling [] rest = Ok (false, rest)
 this_or_none spelling (word ∷ words) rest = if same_spelling word.bytes spelling then Ok (true, record rest { words = words }) else Err (wrong word)
 
