@@ -145,7 +145,7 @@ impl Lines {
         ensures none_kept { result ≡ Err LineFault.ReadFault → HasNoFeed self.new.kept }
         ensures unread { (list_any is_feed self.old.kept || self.old.ended) ≡ true
             → (source.new ≡ source.old) × (self.old.kept ≡ taken result self.new.ended ++ self.new.kept) }
-        ensures calm { result ≢ Err LineFault.ReadFault → S.read_faults source.new ≡ S.read_faults source.old }
+        ensures faultless { result ≢ Err LineFault.ReadFault → S.read_faults source.new ≡ S.read_faults source.old }
         ensures counted { S.read_faults source.old ≤ S.read_faults source.new }
         ensures aside { S.read_aside source.new ≡ S.read_aside source.old }
     {
