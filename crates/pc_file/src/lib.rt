@@ -6,7 +6,7 @@
 mod catalogue;
 mod file;
 mod holding;
-mod laws;
+pub mod laws;
 mod limits;
 mod listing;
 mod listing_text;
@@ -20,10 +20,6 @@ mod variable;
 pub use catalogue::Catalogue;
 pub use file::{File, FileFault};
 pub use holding::holds;
-pub use laws::{
-    bike_has_eight_products, names_have_first_places, parts_end_with_the_rule,
-    products_are_the_words_that_obey,
-};
 pub use limits::is_reserved;
 pub use listing::{costs_of, listing_over, plain_listing};
 pub use listing_text::push_listing;

@@ -5,7 +5,7 @@
 
 mod crowding;
 mod keyword;
-mod laws;
+pub mod laws;
 mod line_words;
 mod lines;
 mod reader;
@@ -15,7 +15,6 @@ mod text;
 mod text_fault;
 mod writer;
 
-pub use laws::{printed_form_spells_file, text_tells_file};
 pub use pc_rules::Kind;
 pub use text::{crowded_line, read_file};
 pub use text_fault::TextFault;
