@@ -9,6 +9,12 @@ ghost use Rattle.pc_calls.specs.Kept.{IsKept};
 ghost use Rattle.pc_calls.specs.State.{State, file_of, opened_by};
 ghost use Rattle.pc_calls.specs.Step.{after, given};
 
+use crate::call::Call;
+use crate::entry::Entry;
+use crate::reply::Reply;
+use crate::shared_file::SharedFile;
+use pc_base::crosses_threads;
+
 /// The file of a version never changes, whatever is called.
 #[tactic(auto, using(crate::proofs::StepLaws::keeps_file))]
 pub fn versions_keep_their_files()
@@ -31,3 +37,11 @@ pub fn numbers_are_given_once()
     ensures counts { (caller : ℕ) (state later : State) → is_present state caller ≡ true → given caller Open state ≡ Ok later
         → opened_by later caller ≡ opened_by state caller + 1 }
 {}
+
+/// Files, calls, entries and replies may be sent to other threads and shared with them.
+pub fn calls_cross_threads() {
+    crosses_threads::<SharedFile>();
+    crosses_threads::<Call>();
+    crosses_threads::<Entry>();
+    crosses_threads::<Reply>();
+}

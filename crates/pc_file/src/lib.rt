@@ -35,6 +35,3 @@ pub use printed_lines::{
 pub use products::{PlainFault, has_few_words, plain_products};
 pub use rule::Rule;
 pub use variable::{Value, Variable};
-
-#[cfg(test)]
-mod tests;

@@ -131,6 +131,7 @@ impl Pending {
         ensures failed { OnErr result (Rose (S.read_faults source.old) (S.read_faults source.new)) }
         ensures kept { OnErr result (self.new ≡ self.old) }
 
+        ensures calm { OnOk result (S.read_faults source.new ≡ S.read_faults source.old) }
         ensures counted { S.read_faults source.old ≤ S.read_faults source.new }
         ensures aside { S.read_aside source.new ≡ S.read_aside source.old }
     {

@@ -23,6 +23,3 @@ pub use kind::Kind;
 pub use laws::{printed_rule_spells_rule, tokens_tell_phrase};
 pub use rule_text::read_rule;
 pub use writer::push_rule;
-
-#[cfg(test)]
-mod tests;

@@ -20,6 +20,3 @@ pub use pc_rules::Kind;
 pub use text::{crowded_line, read_file};
 pub use text_fault::TextFault;
 pub use writer::write_file;
-
-#[cfg(test)]
-mod tests;
