@@ -1,7 +1,7 @@
 -- Reading the words of a line goes wrong where the table of commands says.
 use Rattle.std.proofs.Common.{◌≡◌, ℕ, ℤ, Bool, true, false, is_some, cond, List, [], ◌∷◌, ◌++◌, length, codes, Option, Some, None, Result, Ok, Err, refl, sym, ap, ◌∙◌}
 use Rattle.pc_names.specs.Name.{is_name}
-use Rattle.pc_names.specs.Number.{int_of}
+use Rattle.pc_names.specs.Number.{int_of, unsigned_of}
 use Rattle.pc_names.specs.Spelling.{same_spelling}
 use Rattle.pc_calls.specs.declared.bad_column.BadColumn.{BadColumn}
 use Rattle.pc_calls.specs.declared.command.Command.{Command}
@@ -10,7 +10,7 @@ use Rattle.pc_calls.specs.declared.line_call.LineCall.{LineCall}
 use Rattle.std.specs.Prelude.{MatchResult}
 use Rattle.std.proofs.lemmas.List.{append-nil}
 use Rattle.pc_calls.specs.LineWords.{LineWord, words_from}
-use Rattle.pc_calls.specs.CommandReader.{Rest, rest_of, Reader, ◌>>=◌, ◌>>◌, pure, and_then, word_of_kind, said, end, flag, wrong, unsigned_of, line_count_of, name_of}
+use Rattle.pc_calls.specs.CommandReader.{Rest, rest_of, Reader, ◌>>=◌, ◌>>◌, pure, and_then, word_of_kind, said, end, flag, wrong, line_count_of, name_of}
 use Rattle.pc_calls.specs.CommandLine.{command_of, arguments, command_line, value_of, line_call}
 use Rattle.pc_calls.specs.CommandTable.{Kind, unsigned, number, line_count, name, dropping, is_of_kind, kinds, may_end, first_wrong, wrong_after, wrong_among, bad_column}
 

@@ -3,7 +3,7 @@ use Rattle.std.proofs.Common.{◌≡◌, ℕ, ℤ, Bool, true, false, cond, List
 use Rattle.std.specs.Prelude.{IfOk}
 use Rattle.std.specs.Fmt.{signed_decimal, decimal}
 use Rattle.std.proofs.lemmas.List.{append-nil}
-use Rattle.pc_names.specs.Number.{int_of}
+use Rattle.pc_names.specs.Number.{int_of, unsigned_of}
 use Rattle.pc_names.proofs.Written.{int_of_spelling}
 use Rattle.pc_names.proofs.Places.{name_eq-Decides}
 use Rattle.pc_names.specs.Spelling.{same_spelling}
@@ -14,7 +14,7 @@ use Rattle.pc_calls.specs.declared.command.Command.TheVariants as command
 use Rattle.pc_calls.specs.declared.line_call.LineCall.{LineCall}
 use Rattle.pc_calls.specs.declared.line_call.LineCall.TheVariants.{Whole, PublishHead}
 use Rattle.pc_calls.specs.LineWords.{LineWord, words_from}
-use Rattle.pc_calls.specs.CommandReader.{Rest, rest_of, Reader, ◌>>=◌, ◌>>◌, pure, and_then, word_of_kind, said, end, none_of, flag, wrong, unsigned_of, line_count_of, name_of}
+use Rattle.pc_calls.specs.CommandReader.{Rest, rest_of, Reader, ◌>>=◌, ◌>>◌, pure, and_then, word_of_kind, said, end, none_of, flag, wrong, line_count_of, name_of}
 use Rattle.pc_calls.specs.CommandLine.{command_of, arguments, command_line, value_of, line_call}
 use Rattle.pc_calls.specs.CallWords.{spellings, call_words, IsSayable, IsUnsigned, IsName}
 use Rattle.pc_calls.proofs.KindLemmas.{IsCount, number_read, unsigned_read, unsigned_again, line_count_read, line_count_again, name_read, name_again}

@@ -1,10 +1,11 @@
 -- Reading the words of a line from left to right, up to the first wrong word.
-use Rattle.std.specs.Prelude.{ℕ, ℤ, pos, negsuc, ◌+◌, Bool, true, false, ◌&&◌, nat_le, if◌then◌else◌, List, [], ◌∷◌, length, Option, Some, None, option_and_then, Result, Ok, Err}
+use Rattle.std.specs.Prelude.{ℕ, ◌+◌, Bool, true, false, ◌&&◌, nat_le, if◌then◌else◌, List, [], ◌∷◌, length, Option, Some, None, option_and_then, Result, Ok, Err}
 use Rattle.pc_names.specs.Name.{is_name}
-use Rattle.pc_names.specs.Number.{int_of}
+use Rattle.pc_names.specs.Number.{unsigned_of}
 use Rattle.pc_names.specs.Spelling.{same_spelling}
 use Rattle.pc_calls.specs.declared.bad_column.BadColumn.{BadColumn}
 use Rattle.pc_calls.specs.LineWords.{LineWord, words_from}
+use Rattle.pc_calls.specs.declared.kinds.TheConstants.{MOST_LINES}
 
 -- the words that are left to be read, and the length of their line
 pub record Rest : Type 0 where
@@ -73,17 +74,9 @@ flag spelling rest = this_or_none spelling rest.words rest
 
 -- ---- kinds of words
 
-abbrev pub not_negative : ℤ → Option ℕ
-not_negative (pos n) = Some n
-not_negative (negsuc n) = None
-
--- a number of 64 signed bits in canonical decimal that isn't negative
-abbrev pub unsigned_of : List ℕ → Option ℕ
-unsigned_of bytes = option_and_then not_negative (int_of bytes)
-
--- such a number from 1 to 8,192
+-- a number of lines, from 1 on
 abbrev pub line_count_of : List ℕ → Option ℕ
-line_count_of bytes = option_and_then (λ n. if nat_le 1 n && nat_le n 8192 then Some n else None) (unsigned_of bytes)
+line_count_of bytes = option_and_then (λ n. if nat_le 1 n && nat_le n MOST_LINES then Some n else None) (unsigned_of bytes)
 
 -- a name, which is its own spelling
 abbrev pub name_of : List ℕ → Option (List ℕ)

@@ -7,7 +7,8 @@ use Rattle.pc_calls.specs.declared.bad_column.BadColumn.{BadColumn}
 use Rattle.pc_calls.specs.declared.command.Command.{Command}
 use Rattle.pc_calls.specs.declared.command.Command.TheVariants.{Open, Show, Choose, Retract, Bound, Unbound, Rebase, Close, Publish, Reclaim, Versions, Leave}
 use Rattle.pc_calls.specs.LineWords.{LineWord, words_from}
-use Rattle.pc_calls.specs.CommandReader.{wrong, missing, unsigned_of, line_count_of}
+use Rattle.pc_names.specs.Number.{unsigned_of}
+use Rattle.pc_calls.specs.CommandReader.{wrong, missing, line_count_of}
 use Rattle.pc_calls.specs.CommandLine.{command_of}
 
 -- a number that isn't negative, any number, a number of lines from 1 to 8,192, a name, or the word `dropping`, which may be left out

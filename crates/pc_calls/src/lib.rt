@@ -30,7 +30,7 @@ pub use dropped::{DropList, Dropped};
 pub use entry::Entry;
 pub use head::Head;
 pub use head_text::write_head;
-pub use kinds::unsigned;
+pub use kinds::MOST_LINES;
 pub use line_call::LineCall;
 pub use line_words::first_word;
 pub use live::{Live, LiveList};

@@ -6,7 +6,7 @@ use Rattle.pc_calls.specs.declared.call.Call.TheVariants as call
 use Rattle.pc_calls.specs.declared.line_call.LineCall.{LineCall}
 use Rattle.pc_calls.specs.declared.line_call.LineCall.TheVariants.{Whole, PublishHead}
 use Rattle.pc_calls.specs.CommandLine.{command_of, line_call}
-use Rattle.pc_calls.specs.CommandReader.{unsigned_of}
+use Rattle.pc_names.specs.Number.{unsigned_of}
 use Rattle.pc_calls.specs.LineWords.{LineWord, words_from, end_of}
 use Rattle.pc_calls.specs.State.{State}
 use Rattle.pc_calls.proofs.WordsSaid.{Says, read_is_said}

@@ -3,7 +3,7 @@ use Rattle.std.specs.Prelude.{ℕ, ◌+◌, ◌&&◌, not, nat_le, Bool, true, f
 use Rattle.pc_calls.specs.declared.command.Command.{Command}
 use Rattle.pc_calls.specs.declared.command.Command.TheVariants as command
 use Rattle.pc_calls.specs.CommandLine.{command_of}
-use Rattle.pc_calls.specs.CommandReader.{unsigned_of}
+use Rattle.pc_names.specs.Number.{unsigned_of}
 use Rattle.pc_calls.specs.LineWords.{LineWord, words_from, end_of}
 use Rattle.pc_calls.specs.State.{State, numbered}
 use Rattle.pc_conn.specs.declared.body.Body.{Body}
