@@ -1,3 +1,4 @@
 pub mod Rose
 pub mod Distinct
 pub mod Lines
+pub mod Reserved

@@ -1,6 +1,6 @@
 //! A list of items in order.
 
-ghost use Rattle.std.specs.Prelude.{◌≡◌, ◌<◌, ◌^◌, ◌↔◌, [], ◌∷◌, ◌++◌, length, slice_get, take, IsTrue, IfOk, OnOk, OnErr, OnSome, MatchOption};
+ghost use Rattle.std.specs.Prelude.{◌≡◌, ◌<◌, ◌^◌, ◌↔◌, [], ◌∷◌, ◌++◌, length, slice_get, IsTrue, IfOk, OnOk, OnErr, OnSome, MatchOption, take};
 ghost use Rattle.std.specs.Option.{option_copied};
 
 use crate::memory::NoMemory;
@@ -34,7 +34,8 @@ impl<T> Sequence<T> {
         }
     }
 
-    /// The empty list, with room for so many items.
+    /// The empty list. It takes the room of so many items at once, which contracts don't tell: `Reserved` is the list
+    /// whose contracts do.
     pub fn with_capacity(alloc: Global, capacity: usize) -> Result<Sequence<T>, NoMemory>
         ensures { IfOk result (λ s. s ≡ []) }
     {

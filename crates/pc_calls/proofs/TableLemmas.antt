@@ -1,7 +1,7 @@
 -- Reading the words of a line goes wrong where the table of commands says.
 use Rattle.std.proofs.Common.{◌≡◌, ℕ, ℤ, Bool, true, false, is_some, cond, List, [], ◌∷◌, ◌++◌, length, codes, Option, Some, None, Result, Ok, Err, refl, sym, ap, ◌∙◌}
 use Rattle.pc_names.specs.Name.{is_name}
-use Rattle.pc_names.specs.Number.{int_of}
+use Rattle.pc_names.specs.Number.{int_of, unsigned_of}
 use Rattle.pc_names.specs.Spelling.{same_spelling}
 use Rattle.pc_calls.specs.declared.bad_column.BadColumn.{BadColumn}
 use Rattle.pc_calls.specs.declared.command.Command.{Command}
@@ -9,8 +9,8 @@ use Rattle.pc_calls.specs.declared.command.Command.TheVariants as command
 use Rattle.pc_calls.specs.declared.line_call.LineCall.{LineCall}
 use Rattle.std.specs.Prelude.{MatchResult}
 use Rattle.std.proofs.lemmas.List.{append-nil}
-use Rattle.pc_calls.specs.LineWords.{Word, words_from}
-use Rattle.pc_calls.specs.CommandReader.{Rest, rest_of, Reader, ◌>>=◌, ◌>>◌, pure, and_then, word_of_kind, said, end, flag, wrong, unsigned_of, line_count_of, name_of}
+use Rattle.pc_calls.specs.LineWords.{LineWord, words_from}
+use Rattle.pc_calls.specs.CommandReader.{Rest, rest_of, Reader, ◌>>=◌, ◌>>◌, pure, and_then, word_of_kind, said, end, flag, wrong, line_count_of, name_of}
 use Rattle.pc_calls.specs.CommandLine.{command_of, arguments, command_line, value_of, line_call}
 use Rattle.pc_calls.specs.CommandTable.{Kind, unsigned, number, line_count, name, dropping, is_of_kind, kinds, may_end, first_wrong, wrong_after, wrong_among, bad_column}
 
@@ -19,12 +19,12 @@ abbrev pub stopped : {A : Type 0} → Result A BadColumn → Option BadColumn
 stopped (Ok value) = None
 stopped (Err column) = Some column
 
-abbrev rest : List Word → ℕ → Rest
+abbrev rest : List LineWord → ℕ → Rest
 rest words n = record { words = words; line_length = n }
 
 -- a reader of all words stops where words of these kinds go wrong
 abbrev Judges : Reader LineCall → List Kind → Type 0
-Judges reader ks = (words : List Word) (n : ℕ) → stopped (reader (rest words n)) ≡ first_wrong n ks words
+Judges reader ks = (words : List LineWord) (n : ℕ) → stopped (reader (rest words n)) ≡ first_wrong n ks words
 
 -- a reader of the front stops where words of these kinds go wrong, and else hands on
 record Leads (reader : Reader LineCall) (ks : List Kind) : Type 0 where
@@ -39,7 +39,7 @@ regroup (Ok found) f next = refl
 regroup (Err column) f next = refl
 
 -- what is read of a word that has to be of a kind
-at_word : {A : Type 0} (read : Option A) (is : Bool) (word : Word) (words : List Word) (n : ℕ) (g : A → Reader LineCall) (rest_wrong : Option BadColumn) →
+at_word : {A : Type 0} (read : Option A) (is : Bool) (word : LineWord) (words : List LineWord) (n : ℕ) (g : A → Reader LineCall) (rest_wrong : Option BadColumn) →
     is_some read ≡ is → ((a : A) → stopped (g a (rest words n)) ≡ rest_wrong) →
     stopped (and_then (said read word (rest words n)) g) ≡ cond is rest_wrong (Some (wrong word))
 at_word (Some a) is word words n g rest_wrong agrees goes = rw (← agrees) (goes a)
@@ -62,7 +62,7 @@ word_leads kind read f ks needed agrees goes = record {
 }
 
 -- a word that may be left out
-at_flag : (is : Bool) (word : Word) (words : List Word) (n : ℕ) (g : Bool → Reader LineCall) (rest_wrong : Option BadColumn) →
+at_flag : (is : Bool) (word : LineWord) (words : List LineWord) (n : ℕ) (g : Bool → Reader LineCall) (rest_wrong : Option BadColumn) →
     ((a : Bool) → stopped (g a (rest words n)) ≡ rest_wrong) →
     stopped (and_then (cond is (Ok (true, rest words n)) (Err (wrong word))) g) ≡ cond is rest_wrong (Some (wrong word))
 at_flag true word words n g rest_wrong goes = goes true
@@ -120,11 +120,11 @@ end_judges call (word ∷ words) n = refl
 abbrev after_command : Command → Reader LineCall
 after_command command = arguments command >>= λ call. end >> pure call
 
-at_command : (command : Option Command) (word : Word) (words : List Word) (n : ℕ) → stopped (and_then (said command word (rest words n)) after_command) ≡ wrong_after n word command words
+at_command : (command : Option Command) (word : LineWord) (words : List LineWord) (n : ℕ) → stopped (and_then (said command word (rest words n)) after_command) ≡ wrong_after n word command words
 at_command None word words n = refl
 at_command (Some command) word words n = (arguments_lead command).leads (λ call. end >> pure call) [] end_judges words n ∙ ap (λ ks. first_wrong n ks words) (append-nil (kinds command))
 
-line_judged : (words : List Word) (n : ℕ) → stopped (command_line (rest words n)) ≡ wrong_among n words
+line_judged : (words : List LineWord) (n : ℕ) → stopped (command_line (rest words n)) ≡ wrong_among n words
 unfolding command_line word_of_kind
 line_judged [] n = refl
 line_judged (word ∷ words) n = at_command (command_of word.bytes) word words n

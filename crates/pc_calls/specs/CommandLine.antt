@@ -1,6 +1,6 @@
 -- The commands, the words that follow each, and the call that they say.
 use Rattle.std.specs.Prelude.{ℕ, ℤ, if◌then◌else◌, List, codes, Option, Some, None, Result, Ok, Err}
-use Rattle.pc_names.specs.Number.{int_of}
+use Rattle.pc_names.specs.Number.{int_of, unsigned_of}
 use Rattle.pc_names.specs.Spelling.{same_spelling}
 use Rattle.pc_calls.specs.declared.bad_column.BadColumn.{BadColumn}
 use Rattle.pc_calls.specs.declared.call.Call.TheVariants as call
@@ -8,7 +8,7 @@ use Rattle.pc_calls.specs.declared.command.Command.{Command}
 use Rattle.pc_calls.specs.declared.command.Command.TheVariants as command
 use Rattle.pc_calls.specs.declared.line_call.LineCall.{LineCall}
 use Rattle.pc_calls.specs.declared.line_call.LineCall.TheVariants.{Whole, PublishHead}
-use Rattle.pc_calls.specs.CommandReader.{Rest, rest_of, Reader, ◌>>=◌, ◌>>◌, pure, word_of_kind, end, flag, unsigned_of, line_count_of, name_of}
+use Rattle.pc_calls.specs.CommandReader.{Rest, rest_of, Reader, ◌>>=◌, ◌>>◌, pure, word_of_kind, end, flag, line_count_of, name_of}
 
 -- the command that a word is
 unfoldable pub command_of : List ℕ → Option Command

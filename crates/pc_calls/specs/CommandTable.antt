@@ -6,8 +6,9 @@ use Rattle.pc_names.specs.Spelling.{same_spelling}
 use Rattle.pc_calls.specs.declared.bad_column.BadColumn.{BadColumn}
 use Rattle.pc_calls.specs.declared.command.Command.{Command}
 use Rattle.pc_calls.specs.declared.command.Command.TheVariants.{Open, Show, Choose, Retract, Bound, Unbound, Rebase, Close, Publish, Reclaim, Versions, Leave}
-use Rattle.pc_calls.specs.LineWords.{Word, words_from}
-use Rattle.pc_calls.specs.CommandReader.{wrong, missing, unsigned_of, line_count_of}
+use Rattle.pc_calls.specs.LineWords.{LineWord, words_from}
+use Rattle.pc_names.specs.Number.{unsigned_of}
+use Rattle.pc_calls.specs.CommandReader.{wrong, missing, line_count_of}
 use Rattle.pc_calls.specs.CommandLine.{command_of}
 
 -- a number that isn't negative, any number, a number of lines from 1 to 8,192, a name, or the word `dropping`, which may be left out
@@ -47,17 +48,17 @@ may_end (dropping ∷ kinds) = may_end kinds
 may_end (kind ∷ kinds) = false
 
 -- The column of the first word that isn't of its kind or is one too many; of the end of the line, whose length is given, where a word is missing.
-abbrev pub first_wrong : ℕ → List Kind → List Word → Option BadColumn
+abbrev pub first_wrong : ℕ → List Kind → List LineWord → Option BadColumn
 first_wrong line_length kinds [] = if may_end kinds then None else Some (missing line_length)
 first_wrong line_length [] (word ∷ words) = Some (wrong word)
 first_wrong line_length (kind ∷ kinds) (word ∷ words) = if is_of_kind kind word.bytes then first_wrong line_length kinds words else Some (wrong word)
 
 -- the same of the words after the first, which has to be a command
-abbrev pub wrong_after : ℕ → Word → Option Command → List Word → Option BadColumn
+abbrev pub wrong_after : ℕ → LineWord → Option Command → List LineWord → Option BadColumn
 wrong_after line_length first None words = Some (wrong first)
 wrong_after line_length first (Some command) words = first_wrong line_length (kinds command) words
 
-abbrev pub wrong_among : ℕ → List Word → Option BadColumn
+abbrev pub wrong_among : ℕ → List LineWord → Option BadColumn
 wrong_among line_length [] = Some (missing line_length)
 wrong_among line_length (first ∷ words) = wrong_after line_length first (command_of first.bytes) words
 

@@ -11,7 +11,7 @@ mod entry;
 mod head;
 mod head_text;
 mod kinds;
-mod laws;
+pub mod laws;
 mod line_call;
 mod line_words;
 mod live;
@@ -30,8 +30,7 @@ pub use dropped::{DropList, Dropped};
 pub use entry::Entry;
 pub use head::Head;
 pub use head_text::write_head;
-pub use kinds::unsigned;
-pub use laws::{numbers_are_given_once, sessions_keep_their_versions, versions_keep_their_files};
+pub use kinds::MOST_LINES;
 pub use line_call::LineCall;
 pub use line_words::first_word;
 pub use live::{Live, LiveList};
@@ -41,6 +40,3 @@ pub use reading::read_call;
 pub use reply::{Reply, Shown};
 pub use shared_file::SharedFile;
 pub use writing::write_reply;
-
-#[cfg(test)]
-mod tests;

@@ -1,6 +1,7 @@
 -- What values and words cost.
 use Rattle.std.specs.Prelude.{ℕ, ◌≤◌, ℤ, pos, neg_ℤ, ◌+ℤ◌, ◌≤ℤ◌, List, [], ◌∷◌, length, slice_get, Option, Some, None, unwrap_or, All, Bool, ◌||◌, ◌&&◌, not, int_lt}
 use Rattle.pc_diagram.specs.declared.costs.CostPair.{CostPair}
+use Rattle.pc_diagram.specs.declared.limits.TheConstants.{MOST_VARIABLES}
 use Rattle.pc_diagram.specs.declared.which.Which.{Which}
 use Rattle.pc_diagram.specs.declared.which.Which.TheVariants.{First, Second}
 
@@ -47,7 +48,7 @@ pub record IsPricePair (pair : CostPair) : Type 0 where
 
 -- the costs of at most 64 variables, each part of each pair in that range, so that every sum fits 64 bits
 pub record IsPriced (costs : List (List CostPair)) : Type 0 where
-  pub few : length costs ≤ 64
+  pub few : length costs ≤ MOST_VARIABLES
   pub in_range : All (All IsPricePair) costs
 
 -- a sum of such costs, from -64,000,000,000 to 64,000,000,000

@@ -1,6 +1,7 @@
 -- Canonical diagrams.
 use Rattle.std.specs.Prelude.{◌≡◌, ◌≢◌, ℕ, ◌+◌, ◌*◌, ◌<◌, ◌≤◌, true, false, length, sum, slice_index, is_some}
 use Rattle.std.specs.List.{range_with_len, list_any}
+use Rattle.pc_diagram.specs.declared.limits.TheConstants.{MOST_NODES, MOST_VALUES, MOST_VARIABLES}
 use Rattle.pc_diagram.specs.declared.raw_diagram.RawDiagram.{RawDiagram}
 use Rattle.pc_diagram.specs.DiagramFaults.{is_outside, met}
 use Rattle.pc_diagram.specs.Fitting.{is_number}
@@ -10,7 +11,7 @@ use Rattle.pc_diagram.specs.Levels.{Level, level, row}
 -- and value
 pub record IsShapedLevel (l : Level) : Type 0 where
   pub some_values : 0 < l.domain
-  pub few_values : l.domain ≤ 64
+  pub few_values : l.domain ≤ MOST_VALUES
   pub some_nodes : 0 < l.size
   pub nodes_follow : 0 < l.next
   pub width : length l.table ≡ l.size * l.domain
@@ -18,12 +19,12 @@ pub record IsShapedLevel (l : Level) : Type 0 where
 -- 1 to 64 variables, one layer more, one node in the first and the last, and at most 262,144 nodes
 pub record IsShaped (raw : RawDiagram) : Type 0 where
   pub some_variables : 0 < length raw.domains
-  pub few_variables : length raw.domains ≤ 64
+  pub few_variables : length raw.domains ≤ MOST_VARIABLES
   pub layers : length raw.sizes ≡ length raw.domains + 1
   pub tables : length raw.edges ≡ length raw.domains
   pub root : slice_index raw.sizes 0 ≡ 1
   pub terminal : slice_index raw.sizes (length raw.domains) ≡ 1
-  pub few_nodes : sum raw.sizes ≤ 262144
+  pub few_nodes : sum raw.sizes ≤ MOST_NODES
   pub shaped : (variable : ℕ) → variable < length raw.domains → IsShapedLevel (level raw variable)
 
 -- the edges of a layer lead to the next one, each node has one, one leads to each node of the next layer, no two nodes

@@ -1,6 +1,7 @@
 -- The shape of a diagram's tables.
 use Rattle.std.specs.Prelude.{ℕ, ◌+◌, ◌*◌, ◌==◌, nat_lt, nat_le, Bool, not, ◌&&◌, ◌||◌, if◌then◌else◌, length, take, sum, slice_index, Option, Some}
 use Rattle.std.specs.List.{range_with_len, find}
+use Rattle.pc_diagram.specs.declared.limits.TheConstants.{MOST_NODES, MOST_VALUES, MOST_VARIABLES}
 use Rattle.pc_diagram.specs.declared.raw_diagram.RawDiagram.{RawDiagram}
 use Rattle.pc_diagram.specs.Levels.{Level, level}
 
@@ -11,7 +12,7 @@ first_below test count = find test (range_with_len 0 count)
 -- there are 1 to 64 domains, one size more, and as many tables
 abbrev pub has_lists : RawDiagram → Bool
 has_lists raw =
-    nat_lt 0 (length raw.domains) && nat_le (length raw.domains) 64 && length raw.sizes == length raw.domains + 1
+    nat_lt 0 (length raw.domains) && nat_le (length raw.domains) MOST_VARIABLES && length raw.sizes == length raw.domains + 1
     && length raw.edges == length raw.domains
 
 -- the first and the last layer have one node, and each other layer has some
@@ -22,11 +23,11 @@ has_size raw layer =
 
 -- the layers up to this one have at most 262,144 nodes
 abbrev pub has_room : RawDiagram → ℕ → Bool
-has_room raw layer = nat_le (sum (take (layer + 1) raw.sizes)) 262144
+has_room raw layer = nat_le (sum (take (layer + 1) raw.sizes)) MOST_NODES
 
 -- a variable takes 1 to 64 values, and its table has an edge for each node and value
 abbrev pub has_table : Level → Bool
-has_table l = nat_lt 0 l.domain && nat_le l.domain 64 && length l.table == l.size * l.domain
+has_table l = nat_lt 0 l.domain && nat_le l.domain MOST_VALUES && length l.table == l.size * l.domain
 
 -- a layer has the shape of one
 abbrev pub has_shape : RawDiagram → ℕ → Bool

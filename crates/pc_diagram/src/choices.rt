@@ -59,25 +59,6 @@ impl Choices {
             .map(|choice| choice.value)
     }
 
-    /// Chooses a value for a variable that isn't chosen. The choice goes to the end. Want of memory leaves the
-    /// choices as they were.
-    #[tactic(auto, using(crate::proofs::ChoiceLemmas::distinct_steps))]
-    pub fn choose(&mut self, variable: u32, value: u32) -> Result<(), NoMemory>
-        requires { is_chosen self.old variable ≡ false }
-        ensures ok { OnOk result (self.new ≡ self.old ++ record { variable = variable; value = value } ∷ []) }
-        ensures err { OnErr result (self.new ≡ self.old) }
-    {
-        self.items.push(Choice { variable, value })?;
-        Ok(())
-    }
-
-    /// Takes back the choice of a variable, if it is chosen. The others keep their order.
-    pub fn retract(&mut self, variable: u32)
-        ensures { self.new ≡ without self.old variable }
-    {
-        self.items.retain(|choice| choice.variable != variable);
-    }
-
     /// These choices, with one more at the end, of a variable that isn't chosen.
     #[tactic(auto, using(crate::proofs::ChoiceLemmas::distinct_steps))]
     pub fn with(&self, alloc: Global, variable: u32, value: u32) -> Result<Choices, NoMemory>
@@ -93,10 +74,8 @@ impl Choices {
     pub fn without(&self, alloc: Global, variable: u32) -> Result<Choices, NoMemory>
         ensures { IfOk result (λ choices. choices ≡ without self.now variable) }
     {
-        let mut choices = Choices {
-            items: Vec::from_slice(alloc, self.items.as_slice())?,
-        };
-        choices.retract(variable);
-        Ok(choices)
+        let mut items = Vec::from_slice(alloc, self.items.as_slice())?;
+        items.retain(|choice| choice.variable != variable);
+        Ok(Choices { items })
     }
 }

@@ -5,17 +5,17 @@ ghost use Rattle.std.specs.Option.{option_copied};
 ghost use Rattle.pc_diagram.specs.Costs.{cost, cost_pair, part_taken, IsPrice, IsPricePair, IsPriced};
 
 use crate::costs::{CostPair, Costs};
+use crate::limits::MOST_VARIABLES;
 use crate::which::Which;
 use crate::word::Word;
 use pc_base::Sequence;
 
-const MOST_VARIABLES: usize = 64;
-
+/// The most that a cost of one value is, and the least without its sign.
 const MOST_PRICE: i64 = 1_000_000_000;
 
 /// The first or the second cost of a word. Where the word has no value for a variable, or one without a price, that
 /// variable costs nothing.
-pub fn cost(costs: &Costs, which: Which, word: &Word) -> i64
+fn cost(costs: &Costs, which: Which, word: &Word) -> i64
     requires { IsPriced costs.now }
     ensures { result ≡ cost costs.now which word.now }
 {
@@ -27,7 +27,7 @@ pub fn cost(costs: &Costs, which: Which, word: &Word) -> i64
 }
 
 /// Both costs of a word.
-pub fn cost_pair(costs: &Costs, word: &Word) -> CostPair
+pub(crate) fn cost_pair(costs: &Costs, word: &Word) -> CostPair
     requires { IsPriced costs.now }
     ensures { result ≡ cost_pair costs.now word.now }
 {

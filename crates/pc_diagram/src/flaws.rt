@@ -8,6 +8,7 @@ ghost use Rattle.pc_diagram.specs.Levels.{levels};
 use crate::diagram_fault::DiagramFault;
 use crate::flaw::Flaw;
 use crate::flawed_nodes::flawed_node;
+use crate::limits::MOST_VARIABLES;
 use crate::place::Place;
 use crate::raw_diagram::RawDiagram;
 use pc_base::NoMemory;
@@ -46,7 +47,7 @@ fn flawed_place(alloc: Global, raw: &RawDiagram, flaw: Flaw) -> Result<Option<Pl
 
 /// The layer of a node with a flaw, by the variable whose edges show it.
 fn layer_of(flaw: Flaw, variable: u32) -> u32
-    requires { variable ≤ 64 }
+    requires { variable ≤ MOST_VARIABLES }
     ensures { result ≡ layer_of flaw variable }
 {
     match flaw {

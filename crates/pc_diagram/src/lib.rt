@@ -5,7 +5,6 @@
 #![tactic(auto)]
 
 mod bounds;
-mod cheapest;
 mod choice;
 mod choices;
 mod costing;
@@ -16,7 +15,8 @@ mod diagram_laws;
 mod flaw;
 mod flawed_nodes;
 mod flaws;
-mod laws;
+pub mod laws;
+mod limits;
 mod listed;
 mod matching;
 mod place;
@@ -31,29 +31,17 @@ mod which;
 mod word;
 
 pub use bounds::Bounds;
-pub use cheapest::best;
 pub use choice::Choice;
 pub use choices::Choices;
-pub use costing::{cost, cost_pair, is_priced};
+pub use costing::is_priced;
 pub use costs::{CostPair, Costs};
 pub use diagram::Diagram;
 pub use diagram_fault::DiagramFault;
-pub use diagram_laws::{
-    bikes_have_a_diagram, canonical_tables_have_no_fault, equal_words_have_one_diagram,
-    nodes_are_counted_by_rests, words_are_over_the_domains,
-};
-pub use laws::{
-    best_is_the_first_unbeaten, bikes_are_listed, chosen_has_a_value, listing_has_the_valid_values,
-    sizes_over_two_variables, sums_are_small,
-};
+pub use limits::{MOST_NODES, MOST_VALUES, MOST_VARIABLES};
 pub use listed::{Listed, Listing};
-pub use matching::{extends, fitting, within};
 pub use raw_diagram::RawDiagram;
 pub use side::Side;
 pub use steps::Steps;
 pub use valid_values::listing;
 pub use which::Which;
 pub use word::Word;
-
-#[cfg(test)]
-mod tests;

@@ -7,14 +7,11 @@ ghost use Rattle.pc_diagram.specs.Fitting.{takes, extends, within, fitting};
 
 use crate::bounds::Bounds;
 use crate::choices::Choices;
-use crate::costing::cost_pair;
-use crate::costs::{CostPair, Costs};
+use crate::costs::CostPair;
 use crate::word::Word;
-use pc_base::{NoMemory, Sequence};
-use std::alloc::Global;
 
 /// Whether a word takes every chosen value.
-pub fn extends(word: &Word, choices: &Choices) -> bool
+pub(crate) fn extends(word: &Word, choices: &Choices) -> bool
     ensures { result ≡ extends word.now choices.now }
 {
     choices.as_slice().iter().all(|choice| takes(
@@ -22,34 +19,6 @@ pub fn extends(word: &Word, choices: &Choices) -> bool
         choice.variable as usize,
         choice.value as usize,
     ))
-}
-
-/// Whether each bound that is set is at least that cost of a word.
-pub fn within(costs: &Costs, word: &Word, bounds: &Bounds) -> bool
-    requires { IsPriced costs.now }
-    ensures { result ≡ within costs.now word.now bounds.now }
-{
-    allows_pair(bounds, &cost_pair(costs, word))
-}
-
-/// The words that extend the choices and are within the bounds, in order.
-pub fn fitting(
-    alloc: Global,
-    costs: &Costs,
-    words: &[Word],
-    choices: &Choices,
-    bounds: &Bounds,
-) -> Result<Sequence<Word>, NoMemory>
-    requires { IsPriced costs.now }
-    ensures { IfOk result (λ l. l ≡ fitting costs.now words.now choices.now bounds.now) }
-{
-    let mut kept = Sequence::new(alloc);
-    for word in words {
-        if extends(word, choices) && within(costs, word, bounds) {
-            kept.push(Word::from_slice(alloc, word.as_slice())?)?;
-        }
-    }
-    Ok(kept)
 }
 
 /// Whether a word takes a value at a variable.

@@ -4,13 +4,8 @@ ghost use Rattle.std.specs.Prelude.{◌≡◌, ◌<◌, ◌+◌, length, sum, ta
 ghost use Rattle.pc_diagram.specs.DiagramShape.{has_lists, has_size, has_table, has_shape, misshapen_layer};
 ghost use Rattle.pc_diagram.specs.Levels.{level};
 
+use crate::limits::{MOST_NODES, MOST_VALUES, MOST_VARIABLES};
 use crate::raw_diagram::RawDiagram;
-
-const MOST_VARIABLES: usize = 64;
-
-const MOST_VALUES: u32 = 64;
-
-const MOST_NODES: u64 = 262_144;
 
 /// The first layer that hasn't the shape of one: its size, its domain or its table is wrong, or with it there are too
 /// many nodes. It is 0 where a number of lists is wrong.

@@ -29,7 +29,7 @@ impl Model for Table {
 impl Table {
     /// A table of edges to nodes whose numbers aren't the one that stands for no edge.
     pub(crate) fn new(alloc: Global, edges: &[Option<u32>]) -> Result<Table, NoMemory>
-        requires { list_any (is_outside 4294967295) edges.now ≡ false }
+        requires { list_any (is_outside NO_EDGE) edges.now ≡ false }
         ensures { IfOk result (λ table. table ≡ edges.now) }
     {
         let mut numbers = Vec::with_capacity(alloc, edges.len())?;

@@ -78,9 +78,7 @@ fn item(
     let Some(best) = best_with(words, priced, variable, value) else {
         return Ok(None);
     };
-    let Some(word) = words.get(best.place) else {
-        return Ok(None);
-    };
+    let word = &words[best.place];
     let Some(taken) = word.get(variable) else {
         return Ok(None);
     };

@@ -25,7 +25,7 @@ pub record ReadSoFar (line_limit total_limit : ℕ) (text : List ℕ) (l : Cutte
   pub none_kept : IsTrue l.ended → l.kept ≡ []
   -- what comes after the text is judged by what is left of the limits
   pub judged : (later : List ℕ) → (IsTrue l.ended → later ≡ []) → broken_limit line_limit total_limit (text ++ later) ≡ broken_limit line_limit (total_limit - length text) later
-  pub counted : faults_then ≤ faults
+  pub faultless : faults ≡ faults_then
   pub same_aside : aside ≡ aside_then
 
 -- a line is never taken after the end was given
@@ -49,7 +49,7 @@ pub read_on : (line_limit total_limit : ℕ) (text line : List ℕ) (l m : Cutte
     → (IsTrue m.ended → IsAtEnd mid)
     → m.fault ≡ None
     → ((list_any is_feed l.kept || l.ended) ≡ true → Same × (l.kept ≡ taken (Ok (Some line)) m.ended ++ m.kept))
-    → faults ≤ counted → kept ≡ aside
+    → counted ≡ faults → kept ≡ aside
     → ReadSoFar line_limit total_limit (text ++ taken (Ok (Some line)) m.ended) m rest_then mid faults_then counted aside_then kept
 read_on line_limit total_limit text line l m rest_then rest mid faults_then faults counted aside_then aside kept Same before stream_is given fits rises within limits last at_end told unread count same =
     let bytes : List ℕ = taken (Ok (Some line)) m.ended in
@@ -73,7 +73,7 @@ read_on line_limit total_limit text line l m rest_then rest mid faults_then faul
           ∙ before.judged (bytes ++ later) (λ ended. absurd (both_ways l.ended open_ ended))
           ∙ broken-step line_limit (total_limit - length text) line later m.ended fits.0 short (omega (arith, size)) none
           ∙ ap (λ (n : ℕ). broken_limit line_limit n later) fewer;
-      counted = omega (arith, count, before.counted);
+      faultless = count ∙ before.faultless;
       same_aside = same ∙ before.same_aside;
     }
 

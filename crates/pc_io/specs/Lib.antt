@@ -7,5 +7,6 @@ pub mod Limits
 pub mod Memory
 pub mod NextLine
 pub mod Reached
+pub mod StdEnds
 pub mod Told
 pub mod Took

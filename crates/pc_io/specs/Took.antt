@@ -1,5 +1,5 @@
 -- What was taken off a source by cutting it into lines, between two moments.
-use Rattle.std.specs.Prelude.{◌≡◌, ℕ, ◌+◌, ◌≤◌, false, List, [], ◌++◌, length, Option, Some, Result, Ok, Err, IfSome, IsTrue}
+use Rattle.std.specs.Prelude.{◌≡◌, ℕ, ◌+◌, ◌≤◌, false, List, [], ◌++◌, length, Option, Err, IfSome, IsTrue}
 use Rattle.std.specs.Io.KnownBytes.{prepend_known}
 use Rattle.pc_base.specs.Lines.{lines, HasNoFeed}
 use Rattle.pc_io.specs.declared.line_fault.LineFault.{LineFault}

@@ -1,6 +1,6 @@
 //! Cutting the next line off a stream.
 
-ghost use Rattle.std.specs.Prelude.{◌≡◌, ◌≤◌, ◌<◌, ◌||◌, ◌++◌, ℕ, List, false, true, [], length, IfOk, OnOk, Ok, Err, IsTrue};
+ghost use Rattle.std.specs.Prelude.{◌≡◌, ◌≢◌, ◌≤◌, ◌<◌, ◌||◌, ◌++◌, ℕ, List, false, true, [], length, IfOk, OnOk, Ok, Err, IsTrue};
 ghost use Rattle.std.specs.List.{list_any};
 ghost use Rattle.std.specs.Io.KnownBytes.{IsAtEnd, prepend_known};
 ghost use Rattle.pc_base.specs.Rose.{Rose};
@@ -61,6 +61,7 @@ pub fn cut_line<S: Source>(
     ensures unread { (list_any is_feed (held pending.old) || pending.old.ended) ≡ true
         → (source.new ≡ source.old) × (pending.new.ended ≡ pending.old.ended)
         × (held pending.old ≡ taken result pending.new.ended ++ held pending.new) }
+    ensures faultless { result ≢ Err LineFault.ReadFault → S.read_faults source.new ≡ S.read_faults source.old }
     ensures counted { S.read_faults source.old ≤ S.read_faults source.new }
     ensures aside { S.read_aside source.new ≡ S.read_aside source.old }
 {

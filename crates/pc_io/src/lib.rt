@@ -6,6 +6,7 @@
 mod calls;
 mod cutting;
 mod failed;
+pub mod laws;
 mod line_fault;
 mod lines;
 mod memory_sink;
@@ -30,6 +31,3 @@ pub use source::Source;
 pub use std_sink::StdSink;
 pub use std_source::StdSource;
 pub use whole::whole_text;
-
-#[cfg(test)]
-mod tests;

@@ -1,6 +1,6 @@
 //! A source cut into lines.
 
-ghost use Rattle.std.specs.Prelude.{◌≡◌, ◌≤◌, ◌<◌, ◌+◌, ◌^◌, ◌||◌, ◌∷◌, ◌++◌, false, true, [], length, None, Some, Ok, Err, IfOk, IfSome, OnOk, IsTrue};
+ghost use Rattle.std.specs.Prelude.{◌≡◌, ◌≢◌, ◌≤◌, ◌<◌, ◌+◌, ◌^◌, ◌||◌, ◌∷◌, ◌++◌, false, true, [], length, None, Some, Ok, Err, IfOk, IfSome, OnOk, IsTrue};
 ghost use Rattle.std.specs.List.{list_any};
 ghost use Rattle.std.specs.Option.{option_map};
 ghost use Rattle.std.specs.Io.KnownBytes.{IsAtEnd, prepend_known};
@@ -141,10 +141,11 @@ impl Lines {
         ensures again { IfSome self.old.fault (λ fault.
             (result ≡ Err fault) × (self.new ≡ self.old) × (source.new ≡ source.old)) }
 
-        // It reads only where no line feed is kept and the end wasn't given.
+        // It reads only where no line feed is kept and the end wasn't given, and a read that failed is told at once.
         ensures none_kept { result ≡ Err LineFault.ReadFault → HasNoFeed self.new.kept }
         ensures unread { (list_any is_feed self.old.kept || self.old.ended) ≡ true
             → (source.new ≡ source.old) × (self.old.kept ≡ taken result self.new.ended ++ self.new.kept) }
+        ensures faultless { result ≢ Err LineFault.ReadFault → S.read_faults source.new ≡ S.read_faults source.old }
         ensures counted { S.read_faults source.old ≤ S.read_faults source.new }
         ensures aside { S.read_aside source.new ≡ S.read_aside source.old }
     {

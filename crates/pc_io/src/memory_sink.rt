@@ -1,6 +1,6 @@
 //! A sink in memory.
 
-ghost use Rattle.std.specs.Prelude.{◌≡◌, ◌-◌, ◌<◌, ◌≤◌, ◌++◌, [], Some, length, take, min, nat_lt, nat_le, ◌&&◌, ◌||◌, IfOk, OnErr, is_err};
+ghost use Rattle.std.specs.Prelude.{◌≡◌, ◌+◌, ◌-◌, ◌<◌, ◌≤◌, ◌++◌, [], Some, length, take, min, nat_lt, nat_le, ◌&&◌, ◌||◌, IfOk, OnOk, OnErr, is_err};
 ghost use Rattle.pc_base.specs.Rose.{Rose};
 ghost use Rattle.pc_io.specs.Calls.{after_call, failed_calls, fails_next};
 ghost use Rattle.pc_io.specs.Memory.{failed_writes};
@@ -15,22 +15,21 @@ use std::marker::Model;
 /// Room in memory for bytes, with calls that fail. A write to a full one fails too.
 #[derive(Debug, Drop)]
 pub struct MemorySink {
-    bytes: Vec<u8>,
-    capacity: usize,
+    room: Vec<u8>,
+    taken: usize,
     calls: PlannedCalls,
     refused: u64,
 }
 
 impl Model for MemorySink {
-    ghost use Rattle.std.specs.Prelude.{◌≤◌, length};
-    ghost use Rattle.std.specs.Vec.{vec_capacity};
+    ghost use Rattle.std.specs.Prelude.{◌≤◌, length, take};
     ghost use Rattle.pc_io.specs.Memory.{Intake};
 
     ghost Value = { Intake };
 
-    ghost view = { λ s. record { bytes = s.bytes.items; capacity = s.capacity; calls = s.calls; refused = s.refused } };
+    ghost view = { λ s. record { bytes = take s.taken s.room.items; capacity = length s.room.items; calls = s.calls; refused = s.refused } };
 
-    ghost invariant = { λ s. (length s.bytes.items ≤ s.capacity) × (s.capacity ≤ vec_capacity s.bytes) };
+    ghost invariant = { λ s. s.taken ≤ length s.room.items };
 }
 
 impl MemorySink {
@@ -44,8 +43,8 @@ impl MemorySink {
         }) }
     {
         Ok(MemorySink {
-            bytes: Vec::with_capacity(alloc, capacity)?,
-            capacity,
+            room: vec![in alloc; 0; capacity]?,
+            taken: 0,
             calls: PlannedCalls::new(failing),
             refused: 0,
         })
@@ -55,7 +54,7 @@ impl MemorySink {
     pub fn written(&self) -> &[u8]
         ensures { result.now ≡ self.now.bytes }
     {
-        self.bytes.as_slice()
+        &self.room[..self.taken]
     }
 }
 
@@ -74,6 +73,9 @@ impl Sink for MemorySink {
         ensures failed { OnErr result (Rose (failed_writes self.old) (failed_writes self.new)) }
         ensures kept { OnErr result (self.new.bytes ≡ self.old.bytes) }
 
+        // A fault is counted at most once, and nothing else is.
+        ensures once { OnErr result (failed_writes self.new ≤ failed_writes self.old + 1) }
+        ensures faultless { OnOk result (failed_writes self.new ≡ failed_writes self.old) }
         ensures counted { failed_writes self.old ≤ failed_writes self.new }
 
         // It fails exactly as planned, and where there is no room for a byte.
@@ -85,16 +87,15 @@ impl Sink for MemorySink {
         if self.calls.next_fails() {
             return Err(Failed);
         }
-        let room = self.capacity - self.bytes.len();
+        let room = self.room.len() - self.taken;
         if room == 0 && !from.is_empty() {
             self.refused = self.refused.saturating_add(1);
             return Err(Failed);
         }
         let count = from.len().min(room);
-        match self.bytes.extend_from_slice(&from[..count]) {
-            Ok(()) => Ok(count),
-            // The room was taken when the sink was made.
-            Err(_) => unreachable!(),
-        }
+        let end = self.taken + count;
+        self.room[self.taken..end].copy_from_slice(&from[..count]);
+        self.taken = end;
+        Ok(count)
     }
 }

@@ -1,6 +1,6 @@
 //! A source in memory.
 
-ghost use Rattle.std.specs.Prelude.{◌≡◌, ◌<◌, ◌≤◌, ◌++◌, [], Some, length, take, min, IfOk, OnErr, is_err};
+ghost use Rattle.std.specs.Prelude.{◌≡◌, ◌<◌, ◌≤◌, ◌++◌, [], Some, length, take, min, IfOk, OnOk, OnErr, is_err};
 ghost use Rattle.pc_base.specs.Rose.{Rose};
 ghost use Rattle.pc_io.specs.Calls.{after_call, failed_calls, fails_next};
 
@@ -63,6 +63,7 @@ impl Source for MemorySource {
         ensures failed { OnErr result (Rose (failed_calls self.old.calls) (failed_calls self.new.calls)) }
         ensures kept { OnErr result (self.new.left ≡ self.old.left) }
 
+        ensures faultless { OnOk result (failed_calls self.new.calls ≡ failed_calls self.old.calls) }
         ensures counted { failed_calls self.old.calls ≤ failed_calls self.new.calls }
 
         // It fails exactly as planned.

@@ -1,6 +1,6 @@
 //! Reading on to the end of a line.
 
-ghost use Rattle.std.specs.Prelude.{◌≡◌, ◌≤◌, ◌+◌, ◌<◌, ◌↔◌, ◌||◌, true, [], length, IfOk, IsTrue};
+ghost use Rattle.std.specs.Prelude.{◌≡◌, ◌≢◌, ◌≤◌, ◌+◌, ◌<◌, ◌↔◌, ◌||◌, true, [], length, Ok, IfOk, IsTrue};
 ghost use Rattle.std.specs.List.{list_any};
 ghost use Rattle.std.specs.Io.KnownBytes.{IsAtEnd, prepend_known};
 ghost use Rattle.pc_base.specs.Rose.{Rose};
@@ -57,6 +57,8 @@ pub fn read_line<S: Source>(
     // It reads only where no line feed is held and the end wasn't given.
     ensures unread { (list_any is_feed (held pending.old) || pending.old.ended) ≡ true
         → (source.new ≡ source.old) × (held pending.new ≡ held pending.old) × (pending.new.ended ≡ pending.old.ended) }
+    // A read that failed is told at once.
+    ensures faultless { result ≢ Ok Reached.Fault → S.read_faults source.new ≡ S.read_faults source.old }
     ensures counted { S.read_faults source.old ≤ S.read_faults source.new }
     ensures aside { S.read_aside source.new ≡ S.read_aside source.old }
 {

@@ -1,6 +1,6 @@
 //! Where bytes go.
 
-ghost use Rattle.std.specs.Prelude.{◌≡◌, ℕ, ◌<◌, ◌≤◌, List, length, take, Option, IfOk, OnErr};
+ghost use Rattle.std.specs.Prelude.{◌≡◌, ℕ, ◌<◌, ◌≤◌, List, length, take, Option, IfOk, OnOk, OnErr};
 ghost use Rattle.std.specs.Io.KnownBytes.{append_known};
 ghost use Rattle.pc_base.specs.Rose.{Rose};
 ghost use Rattle.pc_io.specs.Aside.{Aside, no_aside};
@@ -27,6 +27,8 @@ pub trait Sink {
         ensures failed { OnErr result (Rose (write_faults self.old) (write_faults self.new)) }
         ensures kept { OnErr result (written self.new ≡ written self.old) }
 
+        // The count rises at no other answer.
+        ensures faultless { OnOk result (write_faults self.new ≡ write_faults self.old) }
         ensures counted { write_faults self.old ≤ write_faults self.new }
         ensures aside { write_aside self.new ≡ write_aside self.old };
 }

@@ -1,6 +1,6 @@
 //! Where bytes come from.
 
-ghost use Rattle.std.specs.Prelude.{◌≡◌, ℕ, ◌<◌, ◌≤◌, List, length, take, Option, IfOk, OnErr};
+ghost use Rattle.std.specs.Prelude.{◌≡◌, ℕ, ◌<◌, ◌≤◌, List, length, take, Option, IfOk, OnOk, OnErr};
 ghost use Rattle.std.specs.Io.KnownBytes.{IsAtEnd, prepend_known};
 ghost use Rattle.pc_base.specs.Rose.{Rose};
 ghost use Rattle.pc_io.specs.Aside.{Aside, no_aside};
@@ -28,6 +28,8 @@ pub trait Source {
         ensures failed { OnErr result (Rose (read_faults self.old) (read_faults self.new)) }
         ensures kept { OnErr result (rest self.new ≡ rest self.old) }
 
+        // The count rises at no other answer.
+        ensures faultless { OnOk result (read_faults self.new ≡ read_faults self.old) }
         ensures counted { read_faults self.old ≤ read_faults self.new }
         ensures aside { read_aside self.new ≡ read_aside self.old };
 }

@@ -4,7 +4,7 @@ use Rattle.pc_file.specs.Products.{words_of}
 use Rattle.pc_calls.specs.declared.call.Call.{Call}
 use Rattle.pc_calls.specs.declared.call.Call.TheVariants.{Open, Show, Choose, Retract, Close, Publish, Leave}
 use Rattle.pc_calls.specs.CommandLine.{command_of}
-use Rattle.pc_calls.specs.LineWords.{Word}
+use Rattle.pc_calls.specs.LineWords.{LineWord}
 use Rattle.pc_conn.specs.declared.item.Item.{Item}
 use Rattle.pc_conn.specs.declared.item.Item.TheVariants as item
 use Rattle.pc_script.specs.Heard.{is_later}
@@ -36,6 +36,6 @@ IsMadeBy (says.Said said) = IsMade said
 IsMadeBy (says.Publish awaited) = awaited.caller ≡ 1
 
 -- the first word is that of a command which a script doesn't know yet
-abbrev pub is_later_first : List Word → Bool
+abbrev pub is_later_first : List LineWord → Bool
 is_later_first [] = false
 is_later_first (word ∷ words) = is_later (command_of word.bytes)

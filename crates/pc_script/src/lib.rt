@@ -5,19 +5,12 @@
 mod guest;
 mod hearing;
 mod item;
-mod laws;
+pub mod laws;
 mod running;
 mod script_end;
 mod shop;
 mod speaking;
 mod turn;
 
-pub use laws::{
-    bike_script_is_told, scripts_answer_by_their_histories, scripts_are_legal_histories,
-    short_script_is_told,
-};
 pub use running::run_script;
 pub use script_end::ScriptEnd;
-
-#[cfg(test)]
-mod tests;

@@ -8,6 +8,3 @@ mod session;
 
 pub use answer::Answer;
 pub use session::Session;
-
-#[cfg(test)]
-mod tests;

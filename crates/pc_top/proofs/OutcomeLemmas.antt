@@ -9,7 +9,7 @@ use Rattle.pc_top.specs.declared.list_reply.Reply.{Reply}
 use Rattle.pc_top.specs.declared.status.Status.{Status}
 use Rattle.pc_top.specs.declared.status.Status.TheVariants.{Done, WrongWords, Refused, ReadFault, WriteFault, NoMemory, TooLong}
 use Rattle.pc_io.specs.Ends.{Ends}
-use Rattle.pc_top.specs.ListOutcome.{AnswersText, Leaves}
+use Rattle.pc_top.specs.ListOutcome.{IsAnswered, ListLeaves}
 use Rattle.pc_top.specs.ListReply.{list_reply, listed, listing_reply, refused_no_product}
 use Rattle.pc_top.specs.Reply.{Is}
 use Rattle.pc_top.specs.Means.{Means}
@@ -43,7 +43,7 @@ means_listed text file (Ok reply) spells few is =
     (subst (λ t. Means (listed file (products file)).status text t) (sym is.text) (means_file text file spells few))
 means_listed text file (Err fault) spells few is = tt
 
-leaves_by : (status : Status) (text : List ℕ) (written : List ℕ) (before after : Ends) → Means status text written → AnswersText status before after → Leaves status before after
+leaves_by : (status : Status) (text : List ℕ) (written : List ℕ) (before after : Ends) → Means status text written → IsAnswered status before after → ListLeaves status before after
 leaves_by Done text written before after means answers = answers
 leaves_by WrongWords text written before after means answers = elim means [ ]
 leaves_by Refused text written before after means answers = answers
@@ -54,5 +54,5 @@ leaves_by TooLong text written before after means answers = elim means [ ]
 
 -- a text read to its end and its answer written, all of it, are what the answer's status tells
 pub leaves_answer : (text : List ℕ) (status : Status) (before after : Ends) → Means status text (list_reply text).text →
-    AnswersText status before after → Leaves status before after
+    IsAnswered status before after → ListLeaves status before after
 leaves_answer text status before after means answers = leaves_by status text (list_reply text).text before after means answers

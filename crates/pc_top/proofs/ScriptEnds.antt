@@ -7,11 +7,8 @@ use Rattle.pc_io.specs.Ends.{Ends}
 use Rattle.pc_script.specs.declared.script_end.ScriptEnd.{ScriptEnd}
 use Rattle.pc_script.specs.declared.script_end.ScriptEnd.TheVariants.{Ended, ReadFault, WriteFault, TooLong, NoMemory}
 use Rattle.pc_script.specs.ScriptOutcome.{AnswersBefore, Leaves, broken}
-use Rattle.pc_top.specs.Status.{code}
-use Rattle.pc_top.specs.ScriptStatus.{CalledFor, RunsScript, status_after, status_by}
-
-pub runs_script : (end : ScriptEnd) (before after : Ends) → Leaves end before after → RunsScript (code (status_after end)) before after
-runs_script end before after leaves = record { end = end; exit_is = refl; leaves = leaves }
+use Rattle.pc_top.specs.Status.{IsCalledFor}
+use Rattle.pc_top.specs.ScriptStatus.{RunsScript, status_after, status_by}
 
 -- bytes that were all read are all that were told
 all_told : (told rest : Option (List ℕ)) (bytes : List ℕ) → told ≡ prepend_known bytes rest → IsAtEnd rest → IfSome told (λ b. b ≡ bytes)
@@ -27,13 +24,16 @@ always : (told : Option (List ℕ)) (Q : List ℕ → Type 0) → ((b : List ℕ
 always None Q k = tt
 always (Some b) Q k = k b
 
-pub called_for : (end : ScriptEnd) (before after : Ends) → Leaves end before after → IfSome before.rest (λ bytes. CalledFor (code (status_after end)) bytes before after)
+called_for : (end : ScriptEnd) (before after : Ends) → Leaves end before after → IfSome before.rest (λ bytes. IsCalledFor (status_by (broken bytes)) (status_after end))
 called_for Ended before after leaves =
-    if_some before.rest (λ b. b ≡ leaves.bytes) (λ bytes. CalledFor 0 bytes before after) (all_told before.rest after.rest leaves.bytes leaves.read leaves.at_end)
-    (λ b e. inl (sym (ap (λ (o : Option LineFault). code (status_by o)) (ap broken e ∙ leaves.within))))
-called_for ReadFault before after leaves = always before.rest (λ bytes. CalledFor 4 bytes before after) (λ b. inr (inr (inl (refl, leaves.0))))
-called_for WriteFault before after leaves = always before.rest (λ bytes. CalledFor 5 bytes before after) (λ b. inr (inr (inr (refl, leaves.0))))
+    if_some before.rest (λ b. b ≡ leaves.bytes) (λ bytes. IsCalledFor (status_by (broken bytes)) (status_after Ended)) (all_told before.rest after.rest leaves.bytes leaves.read leaves.at_end)
+    (λ b e. inl (sym (ap status_by (ap broken e ∙ leaves.within))))
+called_for ReadFault before after leaves = always before.rest (λ bytes. IsCalledFor (status_by (broken bytes)) (status_after ReadFault)) (λ b. inr (inl refl))
+called_for WriteFault before after leaves = always before.rest (λ bytes. IsCalledFor (status_by (broken bytes)) (status_after WriteFault)) (λ b. inr (inr (inl refl)))
 called_for TooLong before after leaves =
-    if_some before.rest (λ b. AnswersBefore b before after) (λ bytes. CalledFor 7 bytes before after) leaves
-    (λ b stops. inl (sym (ap (λ (o : Option LineFault). code (status_by o)) stops.is_broken)))
-called_for NoMemory before after leaves = always before.rest (λ bytes. CalledFor 6 bytes before after) (λ b. inr (inl refl))
+    if_some before.rest (λ b. AnswersBefore b before after) (λ bytes. IsCalledFor (status_by (broken bytes)) (status_after TooLong)) leaves
+    (λ b stops. inl (sym (ap status_by stops.is_broken)))
+called_for NoMemory before after leaves = always before.rest (λ bytes. IsCalledFor (status_by (broken bytes)) (status_after NoMemory)) (λ b. inr (inr (inr refl)))
+
+pub runs_script : (end : ScriptEnd) (before after : Ends) → Leaves end before after → RunsScript (status_after end) before after
+runs_script end before after leaves = record { end = end; status_is = refl; leaves = leaves; called_for = called_for end before after leaves }

@@ -1,3 +1,4 @@
+pub mod Does
 pub mod ListOutcome
 pub mod ListReply
 pub mod Means

@@ -1,5 +1,5 @@
 -- What `list` leaves, by its status.
-use Rattle.std.specs.Prelude.{◌≡◌, ℕ, Bool, true, false, List, Option, Some, None, IsSome, IfSome}
+use Rattle.std.specs.Prelude.{◌≡◌, ℕ, List, Option, Some, None, IsSome, IfSome}
 use Rattle.std.specs.Io.KnownBytes.{IsAtEnd, append_known, prepend_known}
 use Rattle.pc_base.specs.Rose.{Rose}
 use Rattle.pc_io.specs.Ends.{Ends}
@@ -9,7 +9,7 @@ use Rattle.pc_io.specs.Told.{GrewByPart}
 use Rattle.pc_top.specs.declared.status.Status.{Status}
 use Rattle.pc_top.specs.declared.status.Status.TheVariants.{Done, WrongWords, Refused, ReadFault, WriteFault, NoMemory, TooLong}
 use Rattle.pc_top.specs.Means.{Means}
-use Rattle.pc_top.specs.Status.{code}
+use Rattle.pc_top.specs.Status.{IsCalledFor}
 use Rattle.pc_top.specs.ListReply.{list_reply}
 
 -- the limit that a product text breaks: 65,536 bytes a line, 1,048,576 in all
@@ -22,20 +22,12 @@ pub record ReadsAll (text : List ℕ) (before after : Ends) : Type 0 where
   pub at_end : IsAtEnd after.rest
   pub within : broken text ≡ None
 
--- a text was read to its end, and its answer was written, all of it
-pub record AnswersText (status : Status) (before after : Ends) : Type 0 where
+-- a text was read to its end, and its answer was written, all of it; it has this status
+pub record IsAnswered (status : Status) (before after : Ends) : Type 0 where
   pub text : List ℕ
   pub reads : ReadsAll text before after
   pub status_is : status ≡ (list_reply text).status
   pub means : Means status text (list_reply text).text
-  pub written : after.written ≡ append_known before.written (list_reply text).text
-
--- a text was read to its end, and its answer was written, all of it; the answer has this exit status
-pub record Answers (exit : ℕ) (before after : Ends) : Type 0 where
-  pub text : List ℕ
-  pub reads : ReadsAll text before after
-  pub exit_is : exit ≡ code (list_reply text).status
-  pub means : Means (list_reply text).status text (list_reply text).text
   pub written : after.written ≡ append_known before.written (list_reply text).text
 
 -- a text was read to its end, and a part of its answer was written
@@ -44,27 +36,19 @@ pub record StopsShort (before after : Ends) : Type 0 where
   pub reads : ReadsAll text before after
   pub part : GrewByPart (list_reply text).text before.written after.written
 
-abbrev pub LeavesSink : Ends → Ends → Type 0
-LeavesSink before after = (after.written ≡ before.written) × (after.write_faults ≡ before.write_faults)
+-- nothing was written
+abbrev pub NothingWritten : Ends → Ends → Type 0
+NothingWritten before after = (after.written ≡ before.written) × (after.write_faults ≡ before.write_faults)
 
-abbrev pub Leaves : Status → Ends → Ends → Type 0
-Leaves Done before after = AnswersText Done before after
-Leaves Refused before after = AnswersText Refused before after
-Leaves ReadFault before after = Rose before.read_faults after.read_faults × LeavesSink before after
-Leaves WriteFault before after = Rose before.write_faults after.write_faults × StopsShort before after
-Leaves NoMemory before after = LeavesSink before after
-Leaves TooLong before after = LeavesSink before after × IfSome before.rest (λ b. IsSome (broken b))
-Leaves WrongWords before after = ⊥
-
--- a status that no text calls for: a fault of the source or of the sink, or want of memory
-abbrev pub is_fault : Status → Bool
-is_fault Done = false
-is_fault WrongWords = false
-is_fault Refused = false
-is_fault ReadFault = true
-is_fault WriteFault = true
-is_fault NoMemory = true
-is_fault TooLong = false
+-- what each status leaves
+abbrev pub ListLeaves : Status → Ends → Ends → Type 0
+ListLeaves Done before after = IsAnswered Done before after
+ListLeaves Refused before after = IsAnswered Refused before after
+ListLeaves ReadFault before after = Rose before.read_faults after.read_faults × NothingWritten before after
+ListLeaves WriteFault before after = Rose before.write_faults after.write_faults × StopsShort before after
+ListLeaves NoMemory before after = NothingWritten before after
+ListLeaves TooLong before after = NothingWritten before after × IfSome before.rest (λ b. IsSome (broken b))
+ListLeaves WrongWords before after = ⊥
 
 -- the status that a text with or without a broken limit calls for
 abbrev pub status_or_long : Option LineFault → List ℕ → Status
@@ -74,3 +58,7 @@ status_or_long (Some fault) text = TooLong
 -- the status that the bytes of a source call for
 abbrev pub status_by_text : List ℕ → Status
 status_by_text text = status_or_long (broken text) text
+
+-- `list`: what its status leaves; and the bytes of the source call for that status, unless an end failed or memory ran out
+abbrev pub Lists : Status → Ends → Ends → Type 0
+Lists status before after = ListLeaves status before after × IfSome before.rest (λ text. IsCalledFor (status_by_text text) status)

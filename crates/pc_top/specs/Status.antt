@@ -1,5 +1,5 @@
 -- Exit statuses.
-use Rattle.std.specs.Prelude.{ℕ}
+use Rattle.std.specs.Prelude.{◌≡◌, ℕ, ◌⊎◌}
 use Rattle.pc_top.specs.declared.status.Status.{Status}
 use Rattle.pc_top.specs.declared.status.Status.TheVariants.{Done, WrongWords, Refused, ReadFault, WriteFault, NoMemory, TooLong}
 
@@ -11,3 +11,7 @@ code ReadFault = 4
 code WriteFault = 5
 code NoMemory = 6
 code TooLong = 7
+
+-- The input calls for a status. An end that failed and want of memory have statuses of their own, whatever was read.
+abbrev pub IsCalledFor : Status → Status → Type 0
+IsCalledFor wanted status = (status ≡ wanted) ⊎ (status ≡ ReadFault) ⊎ (status ≡ WriteFault) ⊎ (status ≡ NoMemory)

@@ -1,9 +1,10 @@
 //! `list`: a product text in, its open listing out.
 
-ghost use Rattle.std.specs.Prelude.{◌≡◌, ◌≤◌, false, None, Some, IfSome};
+ghost use Rattle.std.specs.Prelude.{◌≡◌, ◌≤◌};
 ghost use Rattle.pc_base.specs.Rose.{Rose};
-ghost use Rattle.pc_top.specs.ListOutcome.{Leaves, is_fault, status_by_text};
-ghost use Rattle.pc_top.specs.ListReply.{list_reply};
+ghost use Rattle.pc_io.specs.Ends.{ends};
+ghost use Rattle.pc_top.specs.declared.status.Status.TheVariants.{ReadFault, WriteFault};
+ghost use Rattle.pc_top.specs.ListOutcome.{Lists};
 
 use crate::list_reply::Reply;
 use crate::status::Status;
@@ -20,10 +21,10 @@ pub const TEXT_LIMIT: u64 = 1_048_576;
 /// Reads a product text to its end, and writes its answer at once.
 #[tactic(auto, using(crate::proofs::OutcomeLemmas::leaves_answer))]
 pub fn list<S: Source, K: Sink>(alloc: Global, source: &mut S, sink: &mut K) -> Status
-    ensures left { Leaves result
-        (record { rest = S.rest source.old; read_faults = S.read_faults source.old; written = K.written sink.old; write_faults = K.write_faults sink.old })
-        (record { rest = S.rest source.new; read_faults = S.read_faults source.new; written = K.written sink.new; write_faults = K.write_faults sink.new }) }
-    ensures exact { is_fault result ≡ false → IfSome (S.rest source.old) (λ text. result ≡ status_by_text text) }
+    ensures lists { let seen = ends S.rest S.read_faults K.written K.write_faults in
+        Lists result (seen source.old sink.old) (seen source.new sink.new) }
+    ensures read_fault { result ≡ ReadFault → Rose (S.read_faults source.old) (S.read_faults source.new) }
+    ensures write_fault { result ≡ WriteFault → Rose (K.write_faults sink.old) (K.write_faults sink.new) }
     ensures counted_reads { S.read_faults source.old ≤ S.read_faults source.new }
     ensures counted_writes { K.write_faults sink.old ≤ K.write_faults sink.new }
     ensures read_aside { S.read_aside source.new ≡ S.read_aside source.old }
