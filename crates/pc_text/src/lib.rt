@@ -3,6 +3,7 @@
 //! printed form, which spells it and no other file.
 #![tactic(auto)]
 
+mod arguments;
 mod crowding;
 mod keyword;
 pub mod laws;
@@ -10,7 +11,7 @@ mod line_words;
 mod lines;
 mod reader;
 mod reading;
-mod statement;
+mod statement_fault;
 mod text;
 mod text_fault;
 mod writer;

@@ -20,17 +20,18 @@ ghost use Rattle.pc_rules.specs.RuleText.{rule_of};
 ghost use Rattle.pc_text.specs.Told.{Answers};
 ghost use Rattle.pc_text.specs.declared.keyword.Keyword.TheVariants as keyword;
 
+use crate::arguments::{argument, only_free_name, only_name, value_of};
 use crate::crowding::words_before;
 use crate::keyword::Keyword;
 use crate::line_words::{cut_word, words};
-use crate::statement::is_cost_text;
+use crate::statement_fault::StatementFault;
 use pc_base::{NoMemory, Sequence};
 use pc_file::{
     Catalogue, File, FileFault, Rule, Value, Variable, cost_line_size, end_line_size,
-    header_line_size, is_reserved, rule_line_size, value_line_size, variable_line_size, with_line,
+    header_line_size, rule_line_size, value_line_size, variable_line_size, with_line,
 };
-use pc_names::{Name, Names, read_int};
-use pc_rules::{Kind, RuleFault, read_rule};
+use pc_names::{Name, Names};
+use pc_rules::{Kind, read_rule};
 use std::alloc::Global;
 
 /// The variable whose values are being given.
@@ -45,16 +46,16 @@ impl OpenVariable {
     ghost use Rattle.pc_text.specs.Reader.{opened, IsListed, open_faults};
 
     /// Puts a value at the end.
-    fn add(&mut self, value: Value) -> Result<(), RuleFault>
+    fn add(&mut self, value: Value) -> Result<(), StatementFault>
         requires { IsListed self.old }
         ensures { Answers result (first_standing (open_faults (opened self.old) value.name))
             (IsListed self.new × (opened self.new ≡ with_value value (opened self.old))) }
     {
         if self.values.len() >= 64 {
-            return Err(RuleFault::Fault(Kind::Size));
+            return Err(StatementFault::Fault(Kind::Size));
         }
         if !self.names.add(value.name)? {
-            return Err(RuleFault::Fault(Kind::Repeat));
+            return Err(StatementFault::Fault(Kind::Repeat));
         }
         self.values.push(value)?;
         Ok(())
@@ -95,7 +96,7 @@ impl Reader {
 
     /// The next line of the text. After an answer other than `Ok` the reader is of no more use.
     #[tactic(auto, unfolding(crate::specs::FirstFault::line_fault, crate::specs::FirstFault::give_line))]
-    pub fn take_line(&mut self, alloc: Global, line: &[u8]) -> Result<(), RuleFault>
+    pub fn take_line(&mut self, alloc: Global, line: &[u8]) -> Result<(), StatementFault>
         requires { IsIndexed self.old }
         ensures { Answers result (line_fault (given_of self.old) line.now) (Holds self.new (give_line (given_of self.old) line.now)) }
     {
@@ -149,37 +150,37 @@ impl Reader {
         alloc: Global,
         word: Option<Keyword>,
         text: &[u8],
-    ) -> Result<(), RuleFault>
+    ) -> Result<(), StatementFault>
         requires { IsIndexed self.old }
         ensures { let given = given_of self.old in let rule = rule_of (catalogue_of (variables_given given)) text.now in
             Answers result (statement_fault given word (words text.now) rule) (Holds self.new (give_statement given word (words text.now) rule)) }
     {
         match (self.last, word) {
             (None, Some(Keyword::Product)) => self.take_header(&words(alloc, text)?),
-            (None, _) => Err(RuleFault::Fault(Kind::Header)),
+            (None, _) => Err(StatementFault::Fault(Kind::Header)),
             (Some(last), Some(next)) if last.may_precede(Some(next)) => {
                 self.take_allowed(alloc, next, text)
             }
-            (Some(last), _) => Err(RuleFault::Fault(last.expected())),
+            (Some(last), _) => Err(StatementFault::Fault(last.expected())),
         }
     }
 
     /// A first line that begins with `product`.
-    fn take_header(&mut self, arguments: &[&[u8]]) -> Result<(), RuleFault>
+    fn take_header(&mut self, arguments: &[&[u8]]) -> Result<(), StatementFault>
         requires { IsIndexed self.old }
         ensures { Answers result (or_else (first_standing ((not ((length (bytes arguments.now) == 1) && same_spelling (argument (bytes arguments.now) 0) (codes "1")), Header) ∷ []))
             (print_fault (give (given_of self.old) (Some Keyword.Product) (bytes arguments.now)).printed))
             (Holds self.new (give (given_of self.old) (Some Keyword.Product) (bytes arguments.now))) }
     {
         if arguments.len() != 1 || argument(arguments, 0) != b"1".as_slice() {
-            return Err(RuleFault::Fault(Kind::Header));
+            return Err(StatementFault::Fault(Kind::Header));
         }
         self.last = Some(Keyword::Product);
         self.print(header_line_size())
     }
 
     /// A statement that may come here.
-    fn take_allowed(&mut self, alloc: Global, word: Keyword, text: &[u8]) -> Result<(), RuleFault>
+    fn take_allowed(&mut self, alloc: Global, word: Keyword, text: &[u8]) -> Result<(), StatementFault>
         requires { IsIndexed self.old }
         ensures { let given = given_of self.old in let rule = rule_of (catalogue_of (variables_given given)) text.now in
             Answers result (or_else (first_standing (orders_within given (Some word) (words text.now)))
@@ -217,18 +218,18 @@ impl Reader {
     }
 
     /// A line `cost NAME`.
-    fn take_cost(&mut self, arguments: &[&[u8]]) -> Result<(), RuleFault>
+    fn take_cost(&mut self, arguments: &[&[u8]]) -> Result<(), StatementFault>
         requires { IsIndexed self.old }
         ensures { Answers result (or_else (first_standing (orders_within (given_of self.old) (Some Keyword.Cost) (bytes arguments.now)))
             (print_fault (give (given_of self.old) (Some Keyword.Cost) (bytes arguments.now)).printed))
             (Holds self.new (give (given_of self.old) (Some Keyword.Cost) (bytes arguments.now))) }
     {
-        let name = only_name(arguments).ok_or(RuleFault::Fault(Kind::Cost))?;
+        let name = only_name(arguments).ok_or(StatementFault::Fault(Kind::Cost))?;
         if self.costs.len() >= 2 {
-            return Err(RuleFault::Fault(Kind::Size));
+            return Err(StatementFault::Fault(Kind::Size));
         }
         if self.has_cost(&name) {
-            return Err(RuleFault::Fault(Kind::Repeat));
+            return Err(StatementFault::Fault(Kind::Repeat));
         }
         self.costs.push(name)?;
         self.last = Some(Keyword::Cost);
@@ -236,19 +237,19 @@ impl Reader {
     }
 
     /// A line `variable NAME`.
-    fn take_variable(&mut self, alloc: Global, arguments: &[&[u8]]) -> Result<(), RuleFault>
+    fn take_variable(&mut self, alloc: Global, arguments: &[&[u8]]) -> Result<(), StatementFault>
         requires { IsIndexed self.old }
         ensures { Answers result (or_else (first_standing (orders_within (given_of self.old) (Some Keyword.Variable) (bytes arguments.now)))
             (print_fault (give (given_of self.old) (Some Keyword.Variable) (bytes arguments.now)).printed))
             (Holds self.new (give (given_of self.old) (Some Keyword.Variable) (bytes arguments.now))) }
     {
-        let name = only_free_name(arguments).ok_or(RuleFault::Fault(Kind::Variable))?;
+        let name = only_free_name(arguments).ok_or(StatementFault::Fault(Kind::Variable))?;
         self.close()?;
         if self.closed.len() >= 64 {
-            return Err(RuleFault::Fault(Kind::Size));
+            return Err(StatementFault::Fault(Kind::Size));
         }
         if !self.names.variables.add(name)? {
-            return Err(RuleFault::Fault(Kind::Repeat));
+            return Err(StatementFault::Fault(Kind::Repeat));
         }
         self.open_variable = Some(OpenVariable {
             name,
@@ -260,7 +261,7 @@ impl Reader {
     }
 
     /// A line `value NAME NUMBER` or `value NAME NUMBER NUMBER`.
-    fn take_value(&mut self, arguments: &[&[u8]]) -> Result<(), RuleFault>
+    fn take_value(&mut self, arguments: &[&[u8]]) -> Result<(), StatementFault>
         requires { IsIndexed self.old }
         ensures { Answers result (or_else (first_standing (orders_within (given_of self.old) (Some Keyword.Value) (bytes arguments.now)))
             (print_fault (give (given_of self.old) (Some Keyword.Value) (bytes arguments.now)).printed))
@@ -276,14 +277,14 @@ impl Reader {
     }
 
     /// A line `end`.
-    fn take_end(&mut self, arguments: &[&[u8]]) -> Result<(), RuleFault>
+    fn take_end(&mut self, arguments: &[&[u8]]) -> Result<(), StatementFault>
         requires { IsIndexed self.old }
         ensures { Answers result (or_else (first_standing (orders_within (given_of self.old) (Some Keyword.End) (bytes arguments.now)))
             (print_fault (give (given_of self.old) (Some Keyword.End) (bytes arguments.now)).printed))
             (Holds self.new (give (given_of self.old) (Some Keyword.End) (bytes arguments.now))) }
     {
         if !arguments.is_empty() {
-            return Err(RuleFault::Fault(Kind::End));
+            return Err(StatementFault::Fault(Kind::End));
         }
         self.close()?;
         self.last = Some(Keyword::End);
@@ -291,7 +292,7 @@ impl Reader {
     }
 
     /// A line that begins with `rule`.
-    fn take_rule(&mut self, alloc: Global, text: &[u8]) -> Result<(), RuleFault>
+    fn take_rule(&mut self, alloc: Global, text: &[u8]) -> Result<(), StatementFault>
         requires { IsIndexed self.old }
         ensures { let rule = rule_of (catalogue_of (variables_given (given_of self.old))) text.now in
             Answers result (or_else (first_standing (orders_within (given_of self.old) (Some Keyword.Rule) []))
@@ -299,7 +300,7 @@ impl Reader {
             (Holds self.new (give_rule (given_of self.old) rule)) }
     {
         if self.rules.len() >= 1024 {
-            return Err(RuleFault::Fault(Kind::Size));
+            return Err(StatementFault::Fault(Kind::Size));
         }
         self.close()?;
         let rule = read_rule(alloc, &self.names, text)?;
@@ -310,11 +311,11 @@ impl Reader {
     }
 
     /// Counts the printed line of a statement, of so many bytes.
-    fn print(&mut self, size: usize) -> Result<(), RuleFault>
+    fn print(&mut self, size: usize) -> Result<(), StatementFault>
         requires { IsIndexed self.old }
         ensures { Answers result (print_fault (with_line self.old.printed size)) (Holds self.new (record (given_of self.old) { printed = with_line self.old.printed size })) }
     {
-        self.printed = with_line(self.printed, size).ok_or(RuleFault::Fault(Kind::Size))?;
+        self.printed = with_line(self.printed, size).ok_or(StatementFault::Fault(Kind::Size))?;
         Ok(())
     }
 
@@ -330,74 +331,4 @@ fn is_skipped(word: &[u8]) -> bool
     ensures { result ≡ ((length word.now == 0) || (slice_index word.now 0 == 35)) }
 {
     word.is_empty() || word[0] == b'#'
-}
-
-/// The one argument, if there is no other and it spells a name.
-fn only_name(arguments: &[&[u8]]) -> Option<Name>
-    ensures { IsOnlyName (bytes arguments.now) result }
-{
-    match arguments {
-        [name] => Name::read(name).ok(),
-        _ => None,
-    }
-}
-
-/// The one argument, if there is no other and it spells a name that a variable may have.
-fn only_free_name(arguments: &[&[u8]]) -> Option<Name>
-    ensures { IsOnlyFreeName (bytes arguments.now) result }
-{
-    let name = only_name(arguments)?;
-    (!is_reserved(name.as_bytes())).then_some(name)
-}
-
-/// The value that a name and a number for each cost give.
-fn value_of(arguments: &[&[u8]], costs: usize) -> Result<Value, RuleFault>
-    ensures { IsValueOf (bytes arguments.now) costs result }
-{
-    if arguments.is_empty() || arguments.len() - 1 != costs {
-        return Err(RuleFault::Fault(Kind::Value));
-    }
-    let name = Name::read(argument(arguments, 0)).or(Err(RuleFault::Fault(Kind::Value)))?;
-    if !are_costs(&arguments[1..]) {
-        return Err(RuleFault::Fault(Kind::Number));
-    }
-    Ok(Value {
-        name,
-        first: number_at(arguments, 1),
-        second: number_at(arguments, 2),
-    })
-}
-
-/// The argument at a place, or nothing.
-fn argument<'a>(arguments: &[&'a [u8]], place: usize) -> &'a [u8]
-    ensures { result.now ≡ argument (bytes arguments.now) place }
-{
-    match arguments.get(place) {
-        Some(word) => word,
-        None => &[],
-    }
-}
-
-fn are_costs(words: &[&[u8]]) -> bool
-    ensures { result ≡ list_all is_cost_text (bytes words.now) }
-{
-    each_is_cost(words)
-}
-
-fn each_is_cost(words: &[&[u8]]) -> bool
-    ensures { result ≡ list_all (λ word. is_cost_text word.now) words.now }
-{
-    for word in words {
-        if !is_cost_text(word) {
-            return false;
-        }
-    }
-    true
-}
-
-/// The number that an argument spells, or 0.
-fn number_at(arguments: &[&[u8]], place: usize) -> i64
-    ensures { result ≡ number_at (bytes arguments.now) place }
-{
-    read_int(argument(arguments, place)).unwrap_or(0)
 }

@@ -9,8 +9,9 @@ ghost use Rattle.pc_text.specs.Told.{AnswersAt, ReadsText};
 use crate::keyword::Keyword;
 use crate::lines::cut_line;
 use crate::reader::Reader;
+use crate::statement_fault::StatementFault;
 use crate::text_fault::TextFault;
-use pc_rules::{Kind, RuleFault};
+use pc_rules::Kind;
 use std::alloc::Global;
 
 /// The most bytes of a line, lines of a text and bytes of a text.
@@ -74,8 +75,8 @@ fn take_line(alloc: Global, reader: &mut Reader, number: u64, line: &[u8]) -> Re
 {
     match reader.take_line(alloc, line) {
         Ok(()) => Ok(()),
-        Err(RuleFault::Fault(kind)) => Err(TextFault::At { line: number, kind }),
-        Err(RuleFault::NoMemory) => Err(TextFault::NoMemory),
+        Err(StatementFault::Fault(kind)) => Err(TextFault::At { line: number, kind }),
+        Err(StatementFault::NoMemory) => Err(TextFault::NoMemory),
     }
 }
 
