@@ -17,6 +17,7 @@ mod flaw;
 mod flawed_nodes;
 mod flaws;
 mod laws;
+mod limits;
 mod listed;
 mod matching;
 mod place;
@@ -46,6 +47,7 @@ pub use laws::{
     best_is_the_first_unbeaten, bikes_are_listed, chosen_has_a_value, listing_has_the_valid_values,
     sizes_over_two_variables, sums_are_small,
 };
+pub use limits::{MOST_NODES, MOST_VALUES, MOST_VARIABLES};
 pub use listed::{Listed, Listing};
 pub use matching::{extends, fitting, within};
 pub use raw_diagram::RawDiagram;
