@@ -15,6 +15,7 @@ mod printed_lines;
 mod printed_size;
 mod products;
 mod rule;
+mod sizes;
 mod variable;
 
 pub use catalogue::Catalogue;
@@ -30,4 +31,8 @@ pub use printed_lines::{
 };
 pub use products::{PlainFault, has_few_words, plain_products};
 pub use rule::Rule;
+pub use sizes::{
+    MOST_COST, MOST_COSTS, MOST_MEMBERS, MOST_OPEN, MOST_RULES, MOST_WORDS, PRINTED_BYTES,
+    PRINTED_LINE_BYTES,
+};
 pub use variable::{Value, Variable};
