@@ -12,5 +12,6 @@ pub mod WordOrder
 pub mod Products
 pub mod Parts
 pub mod Costs
+pub mod Full
 pub mod ListingText
 pub mod Bike

@@ -15,6 +15,7 @@ mod printed_lines;
 mod printed_size;
 mod products;
 mod rule;
+mod shared_file;
 mod variable;
 
 pub use catalogue::Catalogue;
@@ -34,6 +35,7 @@ pub use printed_lines::{
 };
 pub use products::{PlainFault, has_few_words, plain_products};
 pub use rule::Rule;
+pub use shared_file::SharedFile;
 pub use variable::{Value, Variable};
 
 #[cfg(test)]
