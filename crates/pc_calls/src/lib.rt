@@ -20,7 +20,6 @@ mod outcome;
 mod placed_word;
 mod reading;
 mod reply;
-mod shared_file;
 mod words_left;
 mod writing;
 
@@ -39,5 +38,4 @@ pub use outcome::Outcome;
 pub use placed_word::PlacedWord;
 pub use reading::read_call;
 pub use reply::{Reply, Shown};
-pub use shared_file::SharedFile;
 pub use writing::write_reply;

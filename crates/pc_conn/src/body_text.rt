@@ -8,8 +8,7 @@ ghost use Rattle.pc_text.specs.Given.{contents_given};
 
 use crate::body::Body;
 use pc_base::NoMemory;
-use pc_calls::SharedFile;
-use pc_file::{File, has_few_words};
+use pc_file::{File, SharedFile, has_few_words};
 use pc_text::{TextFault, crowded_line, read_file};
 use std::alloc::Global;
 

@@ -8,8 +8,9 @@ ghost use Rattle.pc_file.specs.Products.{products, words_of};
 ghost use Rattle.pc_script.specs.Visits.{has_number, no_session_reply, plain_head, close_reply, reply_among, shown_with, visits_after, without_number};
 
 use pc_base::{NoMemory, Sequence};
-use pc_calls::{Head, Outcome, Reply, SharedFile, Shown};
+use pc_calls::{Head, Outcome, Reply, Shown};
 use pc_diagram::Listing;
+use pc_file::SharedFile;
 use pc_names::Name;
 use pc_session::{Answer, Session};
 use std::alloc::Global;

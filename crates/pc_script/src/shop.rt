@@ -13,8 +13,8 @@ ghost use Rattle.pc_script.specs.Script.{entered};
 
 use crate::guest::{Guest, plain_head, refused};
 use pc_base::{NoMemory, Sequence};
-use pc_calls::{Call, MOST_LIVE, MOST_SESSIONS, Outcome, Reply, SharedFile, Shown};
-use pc_file::{File, plain_products};
+use pc_calls::{Call, MOST_LIVE, MOST_SESSIONS, Outcome, Reply, Shown};
+use pc_file::{File, SharedFile, plain_products};
 use pc_names::Name;
 use pc_session::Session;
 use std::alloc::Global;
@@ -34,7 +34,7 @@ impl Model for Shop {
     ghost use Rattle.std.specs.Prelude.{◌≡◌, ◌≤◌, false, All};
     ghost use Rattle.std.specs.Coded.{codes};
     ghost use Rattle.pc_calls.specs.State.{State};
-    ghost use Rattle.pc_calls.specs.contracts.shared_file.SharedFile as shared;
+    ghost use Rattle.pc_file.specs.contracts.shared_file.SharedFile as shared;
     ghost use Rattle.pc_script.specs.ShopState.{IsPinned, IsShelved, state_by};
 
     ghost Value = { State };

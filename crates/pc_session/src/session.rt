@@ -11,9 +11,9 @@ ghost use Rattle.pc_session.specs.Visit.{answer_to, visit_after};
 
 use crate::answer::Answer;
 use pc_base::{NoMemory, Sequence};
-use pc_calls::{Outcome, SharedFile};
+use pc_calls::Outcome;
 use pc_diagram::{Bounds, Choices, Listed, Listing, Word};
-use pc_file::{File, PlainFault, listing_over, plain_products};
+use pc_file::{File, PlainFault, SharedFile, listing_over, plain_products};
 use pc_names::Name;
 use std::alloc::Global;
 use std::marker::Model;
@@ -32,7 +32,7 @@ pub struct Session {
 impl Model for Session {
     ghost use Rattle.std.specs.Prelude.{◌≡◌, ◌≤◌, IsTrue};
     ghost use Rattle.pc_file.specs.Products.{words_of};
-    ghost use Rattle.pc_calls.specs.contracts.shared_file.SharedFile as shared;
+    ghost use Rattle.pc_file.specs.contracts.shared_file.SharedFile as shared;
     ghost use Rattle.pc_session.specs.Visit.{Visit, some_fit};
     ghost use Rattle.std.specs.Coded.{codes};
 
