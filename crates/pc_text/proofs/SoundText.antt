@@ -446,7 +446,7 @@ module _ (given : Given) (arguments : List (List ℕ)) (s : Sound given) where
 rules_keep : (variables : List Variable) (text : List ℕ) (rule : Rule) → rule_of (catalogue_of variables) text ≡ Ok rule → is_rule variables rule ≡ true
 rules_keep variables text rule read =
     let names = catalogue_of variables in
-    rule_fits names text rule variables (record { of_variables = refl; of_values = refl }) (rule_of-read names text rule read)
+    rule_fits names text rule variables (record { variables_are = refl; values_are = refl }) (rule_of-read names text rule read)
 
 given_line_by : (given : Given) (line : List ℕ) (skipped : Bool) → Sound given →
     cond skipped None (statement_fault given (keyword_at line) (arguments_at line) (rule_of (catalogue_of (variables_given given)) (after_word line))) ≡ None →
