@@ -21,7 +21,7 @@ use Rattle.pc_rules.proofs.PrintedRuleText.{spaced_rule_spells}
 use Rattle.pc_text.specs.Given.{catalogue_of}
 use Rattle.pc_text.specs.FirstFault.{first_fault, given_by}
 use Rattle.pc_text.specs.Given.{contents_given}
-use Rattle.pc_text.specs.LineWords.{first_word, from_word, after_word}
+use Rattle.pc_names.specs.LineWords.{first_word, from_word, after_word}
 use Rattle.pc_text.specs.Named.{has_names}
 use Rattle.pc_text.specs.Spells.{is_small_line, is_significant, Spells}
 use Rattle.pc_text.specs.Statement.{Statement, header, a_cost, a_variable, a_value, a_rule, end, variable_statements, statements, value_words, Says}

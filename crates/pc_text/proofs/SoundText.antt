@@ -23,7 +23,7 @@ use Rattle.pc_names.proofs.NamesLemmas.{same_spelling-symmetric}
 use Rattle.pc_text.specs.declared.keyword.Keyword.{Keyword}
 use Rattle.pc_text.specs.declared.keyword.Keyword.TheVariants as keyword
 use Rattle.pc_rules.specs.declared.kind.Kind.{Kind}
-use Rattle.pc_text.specs.LineWords.{after_word}
+use Rattle.pc_names.specs.LineWords.{after_word}
 use Rattle.pc_text.specs.Given.{Given, nothing_given, variables_given, contents_given, catalogue_of, is_skipped, keyword_at, arguments_at, argument, value_given, with_value, give, give_rule, give_statement}
 use Rattle.pc_text.specs.Orders.{first_standing, is_wrong_header, comes_wrong, is_malformed, keeps_range, is_cost_text, has_wrong_number, is_one_too_many, is_repeated, orders, rule_fault, fault_of_rule, print_fault, or_else, statement_fault}
 use Rattle.pc_text.specs.FirstFault.{is_large, size_fault, line_fault, give_line, end_fault, at, or_later, fault_from, given_from, first_fault, given_by}

@@ -3,7 +3,6 @@ pub mod Crowded
 pub mod FirstFault
 pub mod Given
 pub mod Keyword
-pub mod LineWords
 pub mod Named
 pub mod Orders
 pub mod Reader

@@ -8,7 +8,6 @@ mod crowding;
 mod keyword;
 pub mod laws;
 mod line_words;
-mod lines;
 mod reader;
 mod reading;
 mod statement_fault;

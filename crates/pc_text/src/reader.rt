@@ -14,7 +14,7 @@ ghost use Rattle.pc_text.specs.FirstFault.{line_fault, give_line};
 ghost use Rattle.std.specs.Option.{option_to_list};
 ghost use Rattle.pc_file.specs.Products.{value_counts, word_count};
 ghost use Rattle.pc_text.specs.Crowded.{is_crowded};
-ghost use Rattle.pc_text.specs.LineWords.{words};
+ghost use Rattle.pc_names.specs.LineWords.{words};
 ghost use Rattle.pc_rules.specs.declared.kind.Kind.TheVariants.{Header};
 ghost use Rattle.pc_rules.specs.RuleText.{rule_of};
 ghost use Rattle.pc_text.specs.Told.{Answers};
@@ -23,14 +23,14 @@ ghost use Rattle.pc_text.specs.declared.keyword.Keyword.TheVariants as keyword;
 use crate::arguments::{argument, only_free_name, only_name, value_of};
 use crate::crowding::words_before;
 use crate::keyword::Keyword;
-use crate::line_words::{cut_word, words};
+use crate::line_words::words;
 use crate::statement_fault::StatementFault;
 use pc_base::{NoMemory, Sequence};
 use pc_file::{
     Catalogue, File, FileFault, Rule, Value, Variable, cost_line_size, end_line_size,
     header_line_size, rule_line_size, value_line_size, variable_line_size, with_line,
 };
-use pc_names::{Name, Names};
+use pc_names::{Name, Names, cut_word};
 use pc_rules::{Kind, read_rule};
 use std::alloc::Global;
 

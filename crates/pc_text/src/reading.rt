@@ -7,10 +7,10 @@ ghost use Rattle.pc_text.specs.Reader.{Holds, IsIndexed, given_of};
 ghost use Rattle.pc_text.specs.Told.{AnswersAt, ReadsText};
 
 use crate::keyword::Keyword;
-use crate::lines::cut_line;
 use crate::reader::Reader;
 use crate::statement_fault::StatementFault;
 use crate::text_fault::TextFault;
+use pc_base::cut_line;
 use pc_rules::Kind;
 use std::alloc::Global;
 
