@@ -5,7 +5,7 @@ use Rattle.pc_names.specs.Number.{unsigned_of}
 use Rattle.pc_names.specs.Spelling.{same_spelling}
 use Rattle.pc_calls.specs.declared.bad_column.BadColumn.{BadColumn}
 use Rattle.pc_calls.specs.LineWords.{LineWord, words_from}
-use Rattle.pc_calls.specs.declared.kinds.TheConstants.{MOST_LINES}
+use Rattle.pc_calls.specs.declared.limits.TheConstants.{MOST_LINES}
 
 -- the words that are left to be read, and the length of their line
 pub record Rest : Type 0 where
@@ -25,22 +25,22 @@ abbrev pub missing : ℕ → BadColumn
 missing line_length = record { column = line_length + 1 }
 
 -- Gives a value and the words that are left after it, or the column of the first word that is wrong or missing.
-abbrev pub Reader : Type 0 → Type 0
-Reader A = Rest → Result (A × Rest) BadColumn
+abbrev pub WordReader : Type 0 → Type 0
+WordReader A = Rest → Result (A × Rest) BadColumn
 
-abbrev pub and_then : {A B : Type 0} → Result (A × Rest) BadColumn → (A → Reader B) → Result (B × Rest) BadColumn
+abbrev pub and_then : {A B : Type 0} → Result (A × Rest) BadColumn → (A → WordReader B) → Result (B × Rest) BadColumn
 and_then (Ok found) next = next found.0 found.1
 and_then (Err column) next = Err column
 
 infixl 10 ◌>>=◌
-abbrev pub ◌>>=◌ : {A B : Type 0} → Reader A → (A → Reader B) → Reader B
+abbrev pub ◌>>=◌ : {A B : Type 0} → WordReader A → (A → WordReader B) → WordReader B
 reader >>= next = λ rest. and_then (reader rest) next
 
 infixl 10 ◌>>◌
-abbrev pub ◌>>◌ : {A B : Type 0} → Reader A → Reader B → Reader B
+abbrev pub ◌>>◌ : {A B : Type 0} → WordReader A → WordReader B → WordReader B
 reader >> next = reader >>= (λ _. next)
 
-abbrev pub pure : {A : Type 0} → A → Reader A
+abbrev pub pure : {A : Type 0} → A → WordReader A
 pure value = λ rest. Ok (value, rest)
 
 -- what a word says, if it says something
@@ -53,7 +53,7 @@ first_of kind [] line_length = Err (missing line_length)
 first_of kind (word ∷ words) line_length = said (kind word.bytes) word (record { words = words; line_length = line_length })
 
 -- The next word has to be there and to be of a kind, which says what a word of it means.
-unfoldable pub word_of_kind : {A : Type 0} → (List ℕ → Option A) → Reader A
+unfoldable pub word_of_kind : {A : Type 0} → (List ℕ → Option A) → WordReader A
 word_of_kind kind rest = first_of kind rest.words rest.line_length
 
 -- no word may come next
@@ -61,7 +61,7 @@ abbrev pub none_of : List LineWord → Rest → Result (Unit {0} × Rest) BadCol
 none_of [] rest = Ok (tt, rest)
 none_of (word ∷ words) rest = Err (wrong word)
 
-unfoldable pub end : Reader (Unit {0})
+unfoldable pub end : WordReader (Unit {0})
 end rest = none_of rest.words rest
 
 -- this word may come next, or none
@@ -69,7 +69,7 @@ abbrev pub this_or_none : List ℕ → List LineWord → Rest → Result (Bool �
 this_or_none spelling [] rest = Ok (false, rest)
 this_or_none spelling (word ∷ words) rest = if same_spelling word.bytes spelling then Ok (true, record rest { words = words }) else Err (wrong word)
 
-unfoldable pub flag : List ℕ → Reader Bool
+unfoldable pub flag : List ℕ → WordReader Bool
 flag spelling rest = this_or_none spelling rest.words rest
 
 -- ---- kinds of words

@@ -4,18 +4,12 @@ use Rattle.pc_file.specs.Limits.{Contents}
 use Rattle.pc_file.specs.Products.{products}
 use Rattle.pc_calls.specs.declared.call.Call.{Call}
 use Rattle.pc_calls.specs.declared.call.Call.TheVariants.{Enter, Open, Show, Choose, Retract, Bound, Unbound, Rebase, Close, Publish, Reclaim, Versions, Leave}
+use Rattle.pc_calls.specs.declared.limits.TheConstants.{MOST_LIVE, MOST_SESSIONS}
 use Rattle.pc_calls.specs.declared.outcome.Outcome.{Outcome}
 use Rattle.pc_calls.specs.declared.outcome.Outcome.TheVariants.{Done, NoSession, NoVersion, SessionsFull, NoProduct, Stale, ShelvesFull}
 use Rattle.pc_calls.specs.Decision.{Decision, ◌>>=◌, ◌>>◌, required, refused_where}
 use Rattle.pc_calls.specs.Selection.{Selection, free, show, choose, retract}
 use Rattle.pc_calls.specs.State.{Caller, OpenSession, State, current, live_versions, file_of, opened_by, is_owned, is_session, session_of, open_sessions}
-
--- a caller may have so many open sessions, and so many versions may be live
-abbrev pub most_sessions : ℕ
-most_sessions = 64
-
-abbrev pub most_live : ℕ
-most_live = 32
 
 -- the item of a number, counted from 1, changed
 abbrev pub change_numbered : {A : Type 0} → (A → A) → List A → ℕ → List A
@@ -48,7 +42,7 @@ enter state = Ok (record { versions = state.versions; callers = state.callers ++
 abbrev pub open_session : ℕ → State → Decision State
 open_session caller state = do
   refused_where (current state == 0) NoVersion
-  refused_where (nat_le most_sessions (open_sessions state caller)) SessionsFull
+  refused_where (nat_le MOST_SESSIONS (open_sessions state caller)) SessionsFull
   Ok (record {
     versions = state.versions;
     callers = change_numbered with_opened state.callers caller;
@@ -89,7 +83,7 @@ abbrev pub publish : ℕ → Contents → State → Decision State
 publish base file state = do
   refused_where (length (products file) == 0) NoProduct
   refused_where (not (base == current state)) (Stale (current state))
-  refused_where (nat_le most_live (live_versions state)) ShelvesFull
+  refused_where (nat_le MOST_LIVE (live_versions state)) ShelvesFull
   Ok (record { versions = state.versions ++ record { file = file; live = true } ∷ []; callers = state.callers; sessions = state.sessions })
 
 -- leave: the caller's sessions end, and it makes no more calls

@@ -3,10 +3,8 @@
 ghost use Rattle.std.specs.Prelude.{◌≡◌};
 ghost use Rattle.pc_calls.specs.CommandReader.{line_count_of, name_of};
 
+use crate::limits::MOST_LINES;
 use pc_names::{Name, read_unsigned};
-
-/// The most lines that a publish may announce.
-pub const MOST_LINES: u64 = 8_192;
 
 /// A number of lines, from 1 to the most that may be announced.
 pub fn line_count(word: &[u8]) -> Option<u64>

@@ -12,8 +12,8 @@ ghost use Rattle.pc_calls.specs.Step.{after, step, has_row};
 use crate::call::Call;
 use crate::entry::Entry;
 use crate::reply::Reply;
-use crate::shared_file::SharedFile;
 use pc_base::crosses_threads;
+use pc_file::SharedFile;
 
 /// The file of a version never changes, whatever is called.
 #[tactic(auto, using(crate::proofs::StepLaws::keeps_file))]

@@ -15,6 +15,7 @@ mod printed_lines;
 mod printed_size;
 mod products;
 mod rule;
+mod shared_file;
 mod sizes;
 mod variable;
 
@@ -31,6 +32,7 @@ pub use printed_lines::{
 };
 pub use products::{PlainFault, has_few_words, plain_products};
 pub use rule::Rule;
+pub use shared_file::SharedFile;
 pub use sizes::{
     MOST_COST, MOST_COSTS, MOST_MEMBERS, MOST_OPEN, MOST_RULES, MOST_WORDS, PRINTED_BYTES,
     PRINTED_LINE_BYTES,

@@ -17,6 +17,9 @@ use pc_base::{Line, NoMemory};
 use std::alloc::Global;
 use std::marker::Model;
 
+/// The most bytes of a line of what the program reads, without its line feed.
+pub const MOST_LINE_BYTES: u64 = 65_536;
+
 /// Cuts a source into lines. It holds no source: each call is to be given the same one.
 ///
 /// A line is the bytes up to the next line feed, without it, or those after the last line feed if there are any. A

@@ -24,7 +24,8 @@ use Rattle.pc_calls.specs.Heads.{head_by}
 use Rattle.pc_calls.specs.History.{after_entries, entry_of}
 use Rattle.pc_calls.specs.LineWords.{words_at}
 use Rattle.pc_calls.specs.State.{State, empty, current, live_versions}
-use Rattle.pc_calls.specs.Step.{after, step, most_live, state_of}
+use Rattle.pc_calls.specs.declared.limits.TheConstants.{MOST_LIVE}
+use Rattle.pc_calls.specs.Step.{after, step, state_of}
 use Rattle.pc_names.specs.Number.{int_of}
 use Rattle.pc_conn.specs.declared.body.Body.TheVariants.{File}
 use Rattle.pc_conn.specs.declared.item.Item.TheVariants as item
@@ -112,7 +113,7 @@ module _ (file : Contents) (some : products file ≡ bikes) where
   offered none = do
     refused_where none NoProduct
     refused_where (not (0 == current one_caller)) (Stale (current one_caller))
-    refused_where (nat_le most_live (live_versions one_caller)) ShelvesFull
+    refused_where (nat_le MOST_LIVE (live_versions one_caller)) ShelvesFull
     Ok one_version
 
   published : step 1 (Publish 0 file) one_caller ≡ Ok one_version

@@ -1,5 +1,6 @@
 -- The calls that a script makes.
 use Rattle.std.specs.Prelude.{◌≡◌, ℕ, ◌≤◌, ⊤, Bool, false, List, [], ◌∷◌}
+use Rattle.pc_file.specs.declared.sizes.TheConstants.{MOST_WORDS}
 use Rattle.pc_file.specs.Products.{words_of}
 use Rattle.pc_calls.specs.declared.call.Call.{Call}
 use Rattle.pc_calls.specs.declared.call.Call.TheVariants.{Open, Show, Choose, Retract, Close, Publish, Leave}
@@ -19,7 +20,7 @@ IsMadeCall (Show session) = ⊤
 IsMadeCall (Choose session variable value) = ⊤
 IsMadeCall (Retract session variable) = ⊤
 IsMadeCall (Close session) = ⊤
-IsMadeCall (Publish base file) = words_of file ≤ 65536
+IsMadeCall (Publish base file) = words_of file ≤ MOST_WORDS
 IsMadeCall Leave = ⊤
 IsMadeCall call = ⊥
 

@@ -2,19 +2,21 @@
 use Rattle.std.specs.Prelude.{◌≡◌, ℕ, List, Option, Some, None, IsSome, IfSome}
 use Rattle.std.specs.Io.KnownBytes.{IsAtEnd, append_known, prepend_known}
 use Rattle.pc_base.specs.Rose.{Rose}
+use Rattle.pc_io.specs.declared.lines.TheConstants.{MOST_LINE_BYTES}
 use Rattle.pc_io.specs.Ends.{Ends}
 use Rattle.pc_io.specs.Limits.{broken_limit}
 use Rattle.pc_io.specs.declared.line_fault.LineFault.{LineFault}
 use Rattle.pc_io.specs.Told.{GrewByPart}
+use Rattle.pc_top.specs.declared.list.TheConstants.{MOST_TEXT_BYTES}
 use Rattle.pc_top.specs.declared.status.Status.{Status}
 use Rattle.pc_top.specs.declared.status.Status.TheVariants.{Done, WrongWords, Refused, ReadFault, WriteFault, NoMemory, TooLong}
 use Rattle.pc_top.specs.Means.{Means}
 use Rattle.pc_top.specs.Status.{IsCalledFor}
 use Rattle.pc_top.specs.ListReply.{list_reply}
 
--- the limit that a product text breaks: 65,536 bytes a line, 1,048,576 in all
+-- the limit that a product text breaks: that of a line, or of all bytes
 abbrev pub broken : List ℕ → Option LineFault
-broken text = broken_limit 65536 1048576 text
+broken text = broken_limit MOST_LINE_BYTES MOST_TEXT_BYTES text
 
 -- a text was read to its end
 pub record ReadsAll (text : List ℕ) (before after : Ends) : Type 0 where
