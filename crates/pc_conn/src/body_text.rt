@@ -35,8 +35,9 @@ fn sound_body(alloc: Global, file: File, text: &[u8]) -> Result<Body, NoMemory>
         return Ok(Body::File(SharedFile::new(alloc, file)?));
     }
     match crowded_line(alloc, text) {
-        Ok(Some(line)) => Ok(Body::NotBuilt { line }),
-        Ok(None) => unreachable!(),
+        Ok(line) => Ok(Body::NotBuilt {
+            line: line.unwrap_or(0),
+        }),
         Err(_) => Err(NoMemory),
     }
 }

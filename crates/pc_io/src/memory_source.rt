@@ -46,6 +46,13 @@ impl MemorySource {
             calls: PlannedCalls::new(failing),
         }
     }
+
+    /// How many reads there were.
+    pub fn reads(&self) -> u64
+        ensures { result ≡ self.now.calls.made }
+    {
+        self.calls.made()
+    }
 }
 
 impl Source for MemorySource {

@@ -10,7 +10,7 @@ ghost use Rattle.pc_rules.specs.declared.phrase.Phrase.{Phrase};
 ghost use Rattle.pc_rules.specs.declared.token.Token.{Token};
 ghost use Rattle.pc_rules.specs.Grammar.{SpellsPhrase};
 ghost use Rattle.pc_rules.specs.Nameable.{Nameable};
-ghost use Rattle.pc_rules.specs.Naming.{HoldsNames};
+ghost use Rattle.pc_file.specs.Catalogue.{Indexes};
 ghost use Rattle.pc_rules.specs.Reading.{phrase_of};
 ghost use Rattle.pc_rules.specs.RuleText.{rule_of, IsRuleText};
 ghost use Rattle.pc_rules.specs.Token.{is_too_deep};
@@ -33,9 +33,9 @@ pub fn grammar_is_read()
 /// The printed form of a rule spells that rule, by itself and after a space. So no other rule has it.
 #[tactic(auto, using(crate::proofs::PrintedRuleText::printed_rule_spells, crate::proofs::PrintedRuleText::spaced_rule_spells, crate::proofs::PrintedRuleText::printed_once))]
 pub fn printed_rule_spells_rule()
-    ensures alone { (names : Catalogue) (variables : List Variable) → HoldsNames names variables → Nameable variables
+    ensures alone { (names : Catalogue) (variables : List Variable) → Indexes names variables → Nameable variables
         → (rule : Rule) → is_rule variables rule ≡ true → IsRuleText names (printed_rule variables rule) rule }
-    ensures spaced { (names : Catalogue) (variables : List Variable) → HoldsNames names variables → Nameable variables
+    ensures spaced { (names : Catalogue) (variables : List Variable) → Indexes names variables → Nameable variables
         → (rule : Rule) → is_rule variables rule ≡ true → IsRuleText names (32 ∷ printed_rule variables rule) rule }
     ensures once { (variables : List Variable) → Nameable variables
         → (rule other : Rule) → is_rule variables rule ≡ true → is_rule variables other ≡ true

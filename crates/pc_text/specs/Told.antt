@@ -14,15 +14,15 @@ abbrev pub of_rule : RuleFault → StatementFault
 of_rule (rule.Fault kind) = Fault kind
 of_rule rule.NoMemory = NoMemory
 
--- no fault, and then P; or the first fault of this kind
-abbrev pub Answers : Result (Unit {0}) StatementFault → Option Kind → Type 0 → Type 0
-Answers (Ok done) fault P = (fault ≡ None) × P
+-- no fault, and a value of which P holds; or the first fault of this kind
+abbrev pub Answers : {X : Type 0} → Result X StatementFault → Option Kind → (X → Type 0) → Type 0
+Answers (Ok x) fault P = (fault ≡ None) × P x
 Answers (Err (Fault kind)) fault P = fault ≡ Some kind
 Answers (Err NoMemory) fault P = Unit {0}
 
--- no fault, and then P; or the first fault, told with the number of its line
-abbrev pub AnswersAt : ℕ → Result (Unit {0}) TextFault → Option Kind → Type 0 → Type 0
-AnswersAt number (Ok done) fault P = (fault ≡ None) × P
+-- no fault, and a value of which P holds; or the first fault, told with the number of its line
+abbrev pub AnswersAt : {X : Type 0} → ℕ → Result X TextFault → Option Kind → (X → Type 0) → Type 0
+AnswersAt number (Ok x) fault P = (fault ≡ None) × P x
 AnswersAt number (Err (At line kind)) fault P = (line ≡ number) × (fault ≡ Some kind)
 AnswersAt number (Err text.NoMemory) fault P = Unit {0}
 

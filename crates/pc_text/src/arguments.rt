@@ -7,7 +7,7 @@ ghost use Rattle.pc_text.specs.Given.{argument, number_at};
 ghost use Rattle.pc_text.specs.Orders.{is_cost_text};
 
 use crate::statement_fault::StatementFault;
-use pc_file::{Value, is_reserved};
+use pc_file::{MOST_COST, Value, is_reserved};
 use pc_names::{Name, read_int};
 use pc_rules::Kind;
 
@@ -86,7 +86,7 @@ fn is_cost_text(word: &[u8]) -> bool
     ensures { result ≡ is_cost_text word.now }
 {
     match read_int(word) {
-        Some(number) => -1_000_000_000 <= number && number <= 1_000_000_000,
+        Some(number) => -MOST_COST <= number && number <= MOST_COST,
         None => false,
     }
 }

@@ -7,15 +7,17 @@ mod arguments;
 mod crowding;
 mod keyword;
 pub mod laws;
+mod limits;
 mod line_words;
-mod lines;
 mod reader;
 mod reading;
 mod statement_fault;
 mod text;
 mod text_fault;
+mod variables;
 mod writer;
 
+pub use limits::{LINE_BYTES, LINES, TEXT_BYTES};
 pub use pc_rules::Kind;
 pub use text::{crowded_line, read_file};
 pub use text_fault::TextFault;
