@@ -1,17 +1,17 @@
 -- Pairs of sets as states of a product.
-use Rattle.std.proofs.Common.{◌≡◌, ℕ, ◌+◌, nat_eq, Bool, true, false, ◌&&◌, List, ◌∷◌, drop, refl, sym, ap, ◌∙◌, subst, arith, true≢false}
+use Rattle.std.proofs.Common.{◌≡◌, ℕ, ◌+◌, nat_eq, Bool, true, false, ◌&&◌, List, ◌∷◌, Option, None, Some, IfSome, refl, sym, ap, ◌∙◌, subst, arith, true≢false}
 use Rattle.std.proofs.lemmas.Bool.Decides.{nat_tests}
 use Rattle.pc_base.proofs.DistinctLemmas.{both_true_parts}
-use Rattle.pc_diagram.specs.Words.{is_word}
 use Rattle.pc_store.specs.declared.id.Id.{Id}
 use Rattle.pc_store.specs.declared.id.Node.{Node}
 use Rattle.pc_store.specs.declared.store.Store.{Store}
-use Rattle.pc_store.specs.Sets.{domains_of, layer_of, id_at, IsId, IsIdAt, has}
+use Rattle.pc_store.specs.Sets.{layer_of, id_at, IsIdAt, has}
+use Rattle.pc_store.proofs.SetLemmas.{words_are_over}
 use Rattle.pc_apply.specs.declared.pair.Operation.{Operation}
 use Rattle.pc_apply.specs.declared.pair.Operation.TheVariants.{And, Or, Without}
 use Rattle.pc_apply.specs.declared.pair.Pair.{Pair}
-use Rattle.pc_apply.specs.Levels.{Follows, is_over}
-use Rattle.pc_apply.specs.Pairs.{holds, pairs_at, same_pair}
+use Rattle.pc_apply.specs.Levels.{Answers, Follows, is_over}
+use Rattle.pc_apply.specs.Pairs.{holds, pairs_at, same_pair, HasBoth, Makes}
 use Rattle.pc_apply.proofs.LevelLemmas.{FollowAlike}
 
 -- equal pairs follow on the same
@@ -54,17 +54,26 @@ holds_over Without true left right f g = refl
 holds_over Without false true right f g = absurd (true≢false (sym (f refl)))
 holds_over Without false false right f g = refl
 
+-- a set with the words that an operation asks for of a pair's sets answers for the pair
+pub made_answers : (store : Store) (layer : ℕ) (operation : Operation) (pair : Pair) (left right : Id) (made : Option Id) → HasBoth store layer pair → left ≡ id_at layer pair.left → right ≡ id_at layer pair.right →
+    IfSome made (Makes store layer operation left right) → IfSome made (Answers store store layer (pairs_at store layer operation) pair)
+made_answers store layer operation pair left right None both is_left is_right h = tt
+made_answers store layer operation pair left right (Some id) both is_left is_right h = record {
+  is_id = h.is_id;
+  words = λ word.
+      h.words word
+      ∙ (λ i. holds operation (has store (is_left i) word) (has store (is_right i) word))
+      ∙ sym (holds_over operation (is_over store layer word) (has store (id_at layer pair.left) word) (has store (id_at layer pair.right) word)
+      (words_are_over store layer (id_at layer pair.left) both.left word) (words_are_over store layer (id_at layer pair.right) both.right word));
+}
+
 -- an id is that of its node
 pub at_node : (layer : ℕ) (id : Id) (node : Node) → layer_of id ≡ layer → id ≡ id_at (layer_of id) node → id ≡ id_at layer node
 at_node layer id node is e = e ∙ ap (λ l. id_at l node) is
 
 -- what an operation asks for of sets of whole words
-pub whole_words : (store : Store) (operation : Operation) (left right : Id) (first second : Node) → IsIdAt store 0 left → IsIdAt store 0 right → left ≡ id_at (layer_of left) first → right ≡ id_at (layer_of right) second →
-    ((id : Id) → IsId store id → (word : List ℕ) → has store id word ≡ true → is_word (drop (layer_of id) (domains_of store)) word ≡ true) → (word : List ℕ) →
+pub whole_words : (store : Store) (operation : Operation) (left right : Id) (first second : Node) → IsIdAt store 0 left → IsIdAt store 0 right → left ≡ id_at (layer_of left) first → right ≡ id_at (layer_of right) second → (word : List ℕ) →
     (is_over store 0 word && holds operation (has store (id_at 0 first) word) (has store (id_at 0 second) word)) ≡ holds operation (has store left word) (has store right word)
-whole_words store operation left right first second is_left is_right left_node right_node over word =
+whole_words store operation left right first second is_left is_right left_node right_node word =
     (λ i. is_over store 0 word && holds operation (has store (sym (at_node 0 left first is_left.1 left_node) i) word) (has store (sym (at_node 0 right second is_right.1 right_node) i) word))
-    ∙ holds_over operation (is_over store 0 word) (has store left word) (has store right word) (in_domains left is_left) (in_domains right is_right)
-  where
-    in_domains : (id : Id) → IsIdAt store 0 id → has store id word ≡ true → is_over store 0 word ≡ true
-    in_domains id is there = subst (λ l. is_word (drop l (domains_of store)) word ≡ true) is.1 (over id is.0 word there)
+    ∙ holds_over operation (is_over store 0 word) (has store left word) (has store right word) (words_are_over store 0 left is_left word) (words_are_over store 0 right is_right word)

@@ -3,7 +3,8 @@ use Rattle.std.proofs.Common.{◌≡◌, ℕ, suc, ◌+◌, ◌<◌, ◌≤◌, 
 use Rattle.std.specs.Bool.{Decides}
 use Rattle.std.proofs.lemmas.Bool.Decides.{nat_tests}
 use Rattle.std.proofs.lemmas.List.{take_all, length_push}
-use Rattle.std.proofs.lemmas.List.Sums.{count_by_more_no, count_by_more_yes, sum_by-cons}
+use Rattle.std.proofs.lemmas.List.Elements.{All-push}
+use Rattle.std.proofs.lemmas.List.Sums.{count_by_more_no, count_by_more_yes, sum_by-append, sum_by-cons}
 use Rattle.std.proofs.lemmas.Option.{slice_get-get_or, get_or_from_slice_get}
 use Rattle.pc_store.specs.declared.id.Node.{Node}
 use Rattle.pc_store.specs.declared.store.Store.{Store}
@@ -28,6 +29,18 @@ same_node-Decides a b = (
 
     itself : (n : ℕ) → nat_eq n n ≡ true
     itself n = grind (arith, nat_tests)
+
+-- a set went to the rest
+pub counts_rest : (store : Store) (layer : ℕ) (set : Node) (old new : Split) → IsNodeAt store layer set → new.full ≡ old.full → new.rest.items ≡ old.rest.items ++ set ∷ [] → CountsIn store layer set old new
+counts_rest store layer set old new is full pushed = record {
+  rest = λ all. subst (All (IsNodeAt store layer)) (sym pushed) (All-push (IsNodeAt store layer) old.rest.items set all is);
+  count = λ word over.
+      let counted : ℕ = cond (has store (id_at layer set) word) 1 0 in
+      let one : count_at store layer (set ∷ []) word ≡ counted + 0 = sum_by-cons (λ n. cond (has store (id_at layer n) word) 1 0) set [] in
+      let all : count_at store layer new.rest.items word ≡ count_at store layer old.rest.items word + count_at store layer (set ∷ []) word = ap (λ sets. count_at store layer sets word) pushed ∙ sum_by-append (λ n. cond (has store (id_at layer n) word) 1 0) old.rest.items (set ∷ []) in
+      omega arith;
+  few = omega arith;
+}
 
 -- one row more has been counted
 pub split_more : (store : Store) (layer : ℕ) (rows : List (List Node)) (value i : ℕ) (row : List Node) (child : Node) (old new : Split) → i < length rows → row ≡ get_or rows i row → slice_get row value ≡ Some child → CountsIn store layer child old new →

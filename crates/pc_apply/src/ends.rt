@@ -11,7 +11,6 @@ pub(crate) fn has_empty_word(store: &Store, set: Id) -> bool
     requires { IsIdAt store.now (length (domains_of store.now)) set }
     ensures { result ≡ has store.now set [] }
 {
-    store.words_are_over_domains();
     store.same_set(set, store.full_end())
 }
 

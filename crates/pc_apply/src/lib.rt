@@ -19,6 +19,3 @@ mod states;
 mod step;
 
 pub use operations::{and, at_most, not, or};
-
-#[cfg(test)]
-mod tests;

@@ -75,7 +75,6 @@ fn combine(store: &mut Store, operation: Operation, left: Id, right: Id) -> Resu
     ensures set { IfOk result (λ id. (word : List ℕ) → has store.new id word ≡ holds operation (has store.old left word) (has store.old right word)) }
     ensures keeps { Keeps store.old store.new }
 {
-    store.words_are_over_domains();
     let alloc = store.allocator();
     let pair = Pair {
         left: left.node(),

@@ -43,7 +43,6 @@ impl Pair {
         requires sets { HasBoth store.now layer self }
         ensures { IfSome result (Answers store.now store.now layer (pairs_at store.now layer operation) self) }
     {
-        store.words_are_over_domains();
         let left = self.left.at(layer);
         let right = self.right.at(layer);
         match operation {
@@ -72,7 +71,6 @@ fn both(store: &Store, layer: u32, left: Id, right: Id) -> Option<Id>
     requires right { IsIdAt store.now layer right }
     ensures { IfSome result (Makes store.now layer Operation.And left right) }
 {
-    store.words_are_over_domains();
     let empty = store.empty(layer);
     let full = store.full(layer);
     if store.same_set(left, right) || store.same_set(left, empty) || store.same_set(right, full) {
@@ -91,7 +89,6 @@ fn either(store: &Store, layer: u32, left: Id, right: Id) -> Option<Id>
     requires right { IsIdAt store.now layer right }
     ensures { IfSome result (Makes store.now layer Operation.Or left right) }
 {
-    store.words_are_over_domains();
     let empty = store.empty(layer);
     let full = store.full(layer);
     if store.same_set(left, right) || store.same_set(left, full) || store.same_set(right, empty) {
@@ -110,7 +107,6 @@ fn first_alone(store: &Store, layer: u32, left: Id, right: Id) -> Option<Id>
     requires right { IsIdAt store.now layer right }
     ensures { IfSome result (Makes store.now layer Operation.Without left right) }
 {
-    store.words_are_over_domains();
     let empty = store.empty(layer);
     if store.same_set(left, empty) || store.same_set(right, empty) {
         Some(left)

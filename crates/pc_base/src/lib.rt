@@ -1,10 +1,11 @@
 //! What every crate above needs and none should write twice: want of memory, a list that contracts see as a
-//! list, one with places taken before, bytes as text, and numbers as decimal text. Contracts promise the exact list
-//! after each call, and that a call that runs out of memory leaves its list as it was.
+//! list, one with places taken before, bytes as text, the cutting of lines, and numbers as decimal text. Contracts
+//! promise the exact list after each call, and that a call that runs out of memory leaves its list as it was.
 #![tactic(auto)]
 
 mod distinct;
 pub mod laws;
+mod lines;
 mod memory;
 mod reserved;
 mod sequence;
@@ -13,6 +14,7 @@ mod threads;
 mod width;
 
 pub use distinct::all_differ;
+pub use lines::{cut_line, first_line_width};
 pub use memory::NoMemory;
 pub use reserved::Reserved;
 pub use sequence::Sequence;

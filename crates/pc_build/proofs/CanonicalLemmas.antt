@@ -18,7 +18,8 @@ use Rattle.pc_store.specs.declared.id.Node.{Node}
 use Rattle.pc_store.specs.declared.store.Store.{Store}
 use Rattle.pc_store.specs.Layered.{IsDomain}
 use Rattle.pc_store.specs.Sets.{domains_of, id_at, IsNodeAt, has}
-use Rattle.pc_build.specs.Extracts.{IsEmpty, Extracts, StandOnce}
+use Rattle.pc_store.proofs.SetLemmas.{one_set}
+use Rattle.pc_build.specs.Extracts.{IsEmpty, Extracts}
 use Rattle.pc_build.proofs.ExtractLemmas.{AreOver, node_over, not_word, some_word, EdgeAt, edges_width, edge_at, target_reached}
 
 -- nodes of a layer, none empty and none twice
@@ -123,20 +124,20 @@ module _ (store : Store) (over : AreOver store) (layer : ℕ) (inner : layer < l
           let isnt : is_word (domain ∷ drop (layer + 1) (domains_of store)) (value ∷ word) ≡ false = ap (λ t. t && is_word (drop (layer + 1) (domains_of store)) word) f in
           no_more left (kept.at_layer a left at_a) (value ∷ word) isnt ∙ sym (no_more right (kept.at_layer b right at_b) (value ∷ word) isnt)
 
-  reduced : StandOnce store → (a b : ℕ) → a < b → b < length nodes → row l a ≢ row l b
-  reduced stand a b before lt same =
+  reduced : (a b : ℕ) → a < b → b < length nodes → row l a ≢ row l b
+  reduced a b before lt same =
       let left = get_or nodes a any_node in
       let right = get_or nodes b any_node in
       let at_a : slice_get nodes a ≡ Some left = slice_get-get_or nodes a any_node (omega arith) in
       let at_b : slice_get nodes b ≡ Some right = slice_get-get_or nodes b any_node lt in
       let is_a = kept.at_layer a left at_a in
       let is_b = kept.at_layer b right at_b in
-      let one : id_at layer left ≡ id_at layer right = stand (id_at layer left) (id_at layer right) is_a.0 (is_b.0, is_b.1 ∙ sym is_a.1) (same_words a b left right at_a at_b same) in
+      let one : id_at layer left ≡ id_at layer right = sym (one_set store (id_at layer left) (id_at layer right) is_a.0 (is_b.0, is_b.1 ∙ sym is_a.1) (same_words a b left right at_a at_b same)) in
       let place : a ≡ b = kept.once a b right (at_a ∙ ap Some (node_is layer left right one)) at_b in
       absurd (omega arith)
 
-  pub layer_canonical : StandOnce store → IsCanonicalLevel l
-  layer_canonical stand = record { layered = layered; live = live; reached = target_reached store layer nodes next edges e; reduced = reduced stand; ordered = e.are_edges.ordered }
+  pub layer_canonical : IsCanonicalLevel l
+  layer_canonical = record { layered = layered; live = live; reached = target_reached store layer nodes next edges e; reduced = reduced; ordered = e.are_edges.ordered }
 
   pub layer_shaped : IsDomain domain → 0 < length nodes → IsShapedLevel l
   layer_shaped is some = record { some_values = is.some_value; few_values = is.few_values; some_nodes = some; nodes_follow = some_next some; width = edges_width store layer nodes next edges e }

@@ -20,6 +20,7 @@ use Rattle.pc_store.specs.declared.id.Id.{Id}
 use Rattle.pc_store.specs.declared.id.Node.{Node}
 use Rattle.pc_store.specs.declared.store.Store.{Store}
 use Rattle.pc_store.specs.Sets.{domains_of, layer_of, id_at, IsId, IsNodeAt, has, AreChildren}
+use Rattle.pc_store.proofs.SetLemmas.{words_are_over}
 use Rattle.pc_build.specs.Extracts.{IsEmpty, IsEdge, Extracts}
 
 -- the rows in one list
@@ -55,6 +56,9 @@ in_table p v n d lt inside =
 -- the words of sets are words over the domains from their layer on
 abbrev pub AreOver : Store → Type 0
 AreOver store = (id : Id) → IsId store id → (word : List ℕ) → has store id word ≡ true → is_word (drop (layer_of id) (domains_of store)) word ≡ true
+
+pub are_over : (store : Store) → AreOver store
+are_over store id is word there = words_are_over store (layer_of id) id (is, refl) word there
 
 pub node_over : (store : Store) → AreOver store → (layer : ℕ) (node : Node) → IsNodeAt store layer node → (word : List ℕ) → has store (id_at layer node) word ≡ true → is_word (drop layer (domains_of store)) word ≡ true
 node_over store over layer node is word there = subst (λ l. is_word (drop l (domains_of store)) word ≡ true) is.1 (over (id_at layer node) is.0 word there)

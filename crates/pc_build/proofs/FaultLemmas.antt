@@ -11,7 +11,7 @@ only_memory : (first : Option DiagramFault) (fault : DiagramFault) → first ≡
 only_memory first NoMemory none told = refl
 only_memory first fault none told = let told_none : None ≡ Some fault = sym none ∙ told (λ same. cc) in absurd cc
 
--- what the check of tables tells of those that are canonical where something holds
-pub memory_alone : {A : Type 0} (P : Type 0) (raw : RawDiagram) (r : Result A DiagramFault) → (P → IsCanonical raw) → IfErr r (λ fault. fault ≢ NoMemory → first_fault raw ≡ Some fault) → IfErr r (λ fault. P → fault ≡ NoMemory)
-memory_alone P raw (Ok diagram) canonical h = tt
-memory_alone P raw (Err fault) canonical h = λ p. only_memory (first_fault raw) fault (canonical_no_fault raw (canonical p)) h
+-- the check of canonical tables tells of no other fault
+pub memory_alone : {A : Type 0} (raw : RawDiagram) (r : Result A DiagramFault) → IsCanonical raw → IfErr r (λ fault. fault ≢ NoMemory → first_fault raw ≡ Some fault) → IfErr r (λ fault. fault ≡ NoMemory)
+memory_alone raw (Ok diagram) canonical h = tt
+memory_alone raw (Err fault) canonical h = only_memory (first_fault raw) fault (canonical_no_fault raw canonical) h

@@ -4,6 +4,7 @@ use Rattle.std.specs.List.{list_any}
 use Rattle.std.proofs.lemmas.List.{take_all, drop_more, length_push, take-append-le}
 use Rattle.std.proofs.lemmas.List.Folds.{list_all_more, list_any-append, list_any_at}
 use Rattle.std.proofs.lemmas.Option.{slice_get_within, get_or_from_slice_get}
+use Rattle.pc_diagram.specs.declared.limits.TheConstants.{MOST_NODES}
 use Rattle.pc_diagram.specs.Words.{is_word}
 use Rattle.pc_store.specs.declared.id.Id.{Id}
 use Rattle.pc_store.specs.declared.store.Store.{Store}
@@ -12,9 +13,9 @@ use Rattle.pc_file.specs.declared.variable.Variable.{Variable}
 use Rattle.pc_file.specs.declared.rule.Rule.{Rule}
 use Rattle.pc_file.specs.Products.{value_counts}
 use Rattle.pc_file.specs.Rule.{holds}
-use Rattle.pc_file.specs.Parts.{parts_of, sets_of, is_too_large}
+use Rattle.pc_file.specs.Parts.{parts_of, sets_of, is_too_large, IsNodeLimit}
 use Rattle.pc_build.specs.Making.{Denotes, AllMade, StopsAt}
-use Rattle.pc_build.specs.Building.{Joined, IsLimit}
+use Rattle.pc_build.specs.Building.{Joined}
 use Rattle.pc_build.proofs.MakingLemmas.{later}
 
 -- the full set has the words over the numbers of values, whatever is tested
@@ -56,7 +57,7 @@ module _ (old : Store) (variables : List Variable) (rules : List Rule) (i : ℕ)
     before = h.before ++ sets ∷ [];
     sets_are = goes_on ∙ sym (append_assoc h.before (sets ∷ []) (sets_of variables both (drop (i + 1) rules)));
     count_is = length_push h.before sets ∙ ap (λ n. n + 1) h.count_is;
-    none = list_any-append (list_any (is_too_large (value_counts variables))) h.before (sets ∷ []) ∙ (λ k. h.none k || (all.none k || false));
+    none = list_any-append (list_any (is_too_large MOST_NODES (value_counts variables))) h.before (sets ∷ []) ∙ (λ k. h.none k || (all.none k || false));
     denotes = denotes;
     words = λ word.
         (λ k. h.words word k && holds variables word (read k))
@@ -64,7 +65,7 @@ module _ (old : Store) (variables : List Variable) (rules : List Rule) (i : ℕ)
   }
 
   -- one of its sets is too large
-  pub limit_at : (part : ℕ) → StopsAt (value_counts variables) sets 0 part → IsLimit variables rules (i + 1) part
+  pub limit_at : (part : ℕ) → StopsAt (value_counts variables) sets 0 part → IsNodeLimit MOST_NODES (value_counts variables) (sets_of variables (λ word. true) rules) (i + 1) part
   limit_at part stops = record {
     rule_place = i;
     part_place = stops.place;
@@ -74,10 +75,10 @@ module _ (old : Store) (variables : List Variable) (rules : List Rule) (i : ℕ)
     part_is = let n = stops.number_is in omega arith;
     first_rule = record {
       stands = ap (λ ss. slice_get ss i) goes_on ∙ subst (λ n. slice_get (h.before ++ sets ∷ sets_of variables both (drop (i + 1) rules)) n ≡ Some sets) (let c = h.count_is in let same : length h.before + 0 ≡ i = omega arith in same) (later h.before (sets ∷ sets_of variables both (drop (i + 1) rules)) 0 sets refl);
-      passes = list_any_at (is_too_large (value_counts variables)) sets stops.place stops.part (slice_get_within sets stops.place stops.part stops.first.stands)
-          (ap (is_too_large (value_counts variables)) (get_or_from_slice_get sets stops.place stops.part stops.part stops.first.stands) ∙ stops.first.passes);
-      none_before = ap (λ ss. list_any (list_any (is_too_large (value_counts variables))) (take i ss)) goes_on
-          ∙ ap (list_any (list_any (is_too_large (value_counts variables)))) (take-append-le i h.before (sets ∷ sets_of variables both (drop (i + 1) rules)) (let c = h.count_is in omega arith) ∙ take_all i h.before (let c = h.count_is in omega arith))
+      passes = list_any_at (is_too_large MOST_NODES (value_counts variables)) sets stops.place stops.part (slice_get_within sets stops.place stops.part stops.first.stands)
+          (ap (is_too_large MOST_NODES (value_counts variables)) (get_or_from_slice_get sets stops.place stops.part stops.part stops.first.stands) ∙ stops.first.passes);
+      none_before = ap (λ ss. list_any (list_any (is_too_large MOST_NODES (value_counts variables))) (take i ss)) goes_on
+          ∙ ap (list_any (list_any (is_too_large MOST_NODES (value_counts variables)))) (take-append-le i h.before (sets ∷ sets_of variables both (drop (i + 1) rules)) (let c = h.count_is in omega arith) ∙ take_all i h.before (let c = h.count_is in omega arith))
           ∙ h.none;
     };
     first_part = stops.first;

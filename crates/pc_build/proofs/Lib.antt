@@ -1,3 +1,4 @@
+pub mod BikeLimits
 pub mod CanonicalLemmas
 pub mod ChainLemmas
 pub mod DemandLemmas
@@ -17,3 +18,4 @@ pub mod JoinedLemmas
 pub mod ProductLemmas
 pub mod FullLemmas
 pub mod SmallLemmas
+pub mod VersionLemmas

@@ -6,6 +6,7 @@ use Rattle.std.proofs.lemmas.List.Folds.{list_any-append}
 use Rattle.std.proofs.lemmas.Option.{slice_get_within}
 use Rattle.std.proofs.lemmas.Bool.Decides.{nat_tests}
 use Rattle.std.proofs.Math.Seq.{take-append-add}
+use Rattle.pc_diagram.specs.declared.limits.TheConstants.{MOST_NODES}
 use Rattle.pc_diagram.specs.Rests.{size}
 use Rattle.pc_diagram.specs.Words.{is_word}
 use Rattle.pc_store.specs.declared.id.Id.{Id}
@@ -39,7 +40,7 @@ later (z ∷ xs) ys k x h = subst (λ n. slice_get (z ∷ (xs ++ ys)) n ≡ Some
 pub size_of_set : (store : Store) (set : Id) (test : List ℕ → Bool) (n : ℕ) → Denotes store test set → n ≡ size (drop (layer_of set) (domains_of store)) (has store set) → n ≡ size (domains_of store) (λ word. is_word (domains_of store) word && test word)
 size_of_set store set test n d e = e ∙ ap (λ l. size (drop l (domains_of store)) (has store set)) d.is_id.1 ∙ ap (size (domains_of store)) (λ i word. d.words word i)
 
-pub stops_here : (store : Store) (set : Id) (test : List ℕ → Bool) (n made part : ℕ) → Denotes store test set → n ≡ size (drop (layer_of set) (domains_of store)) (has store set) → 262144 < n → part ≡ made + 1 → StopsAt (domains_of store) (test ∷ []) made part
+pub stops_here : (store : Store) (set : Id) (test : List ℕ → Bool) (n made part : ℕ) → Denotes store test set → n ≡ size (drop (layer_of set) (domains_of store)) (has store set) → MOST_NODES < n → part ≡ made + 1 → StopsAt (domains_of store) (test ∷ []) made part
 stops_here store set test n made part d e large next = record {
   place = 0;
   part = test;
@@ -51,13 +52,13 @@ stops_here store set test n made part d e large next = record {
   number_is = omega arith;
 }
 
-pub made_here : (store : Store) (set : Id) (test : List ℕ → Bool) (n made now : ℕ) → Denotes store test set → n ≡ size (drop (layer_of set) (domains_of store)) (has store set) → n ≤ 262144 → now ≡ made + 1 → AllMade (domains_of store) (test ∷ []) made now
+pub made_here : (store : Store) (set : Id) (test : List ℕ → Bool) (n made now : ℕ) → Denotes store test set → n ≡ size (drop (layer_of set) (domains_of store)) (has store set) → n ≤ MOST_NODES → now ≡ made + 1 → AllMade (domains_of store) (test ∷ []) made now
 made_here store set test n made now d e small count = record {
   none = (let same = size_of_set store set test n d e in ap (λ b. b || false) (by (size (domains_of store) (λ word. is_word (domains_of store) word && test word)) n same small));
   count = count;
 }
   where
-    by : (size n : ℕ) → n ≡ size → n ≤ 262144 → nat_lt 262144 size ≡ false
+    by : (size n : ℕ) → n ≡ size → n ≤ MOST_NODES → nat_lt MOST_NODES size ≡ false
     by size n e small = grind (arith, nat_tests)
 
 -- a set stays what it is
@@ -87,7 +88,7 @@ denote_each_later old new variables rules ids keeps h = record {
 -- all were made of one list, and then of another
 pub all_made_both : (domains : List ℕ) (first second : List (List ℕ → Bool)) (old mid new : ℕ) → AllMade domains first old mid → AllMade domains second mid new → AllMade domains (first ++ second) old new
 all_made_both domains first second old mid new a b = record {
-  none = list_any-append (is_too_large domains) first second ∙ (λ i. a.none i || b.none i);
+  none = list_any-append (is_too_large MOST_NODES domains) first second ∙ (λ i. a.none i || b.none i);
   count = let c = a.count in let d = b.count in let l = length-append first second in omega arith;
 }
 
@@ -99,7 +100,7 @@ stops_first domains first second old number h = record {
   first = record {
     stands = still first second h.place h.part h.first.stands;
     passes = h.first.passes;
-    none_before = ap (list_any (is_too_large domains)) (take-append-le h.place first second (let lt = slice_get_within first h.place h.part h.first.stands in omega arith)) ∙ h.first.none_before;
+    none_before = ap (list_any (is_too_large MOST_NODES domains)) (take-append-le h.place first second (let lt = slice_get_within first h.place h.part h.first.stands in omega arith)) ∙ h.first.none_before;
   };
   number_is = h.number_is;
 }
@@ -113,8 +114,8 @@ stops_second domains first second old mid number a h = record {
     stands = later first second h.place h.part h.first.stands;
     passes = h.first.passes;
     none_before =
-        ap (list_any (is_too_large domains)) (take-append-add first second h.place)
-        ∙ list_any-append (is_too_large domains) first (take h.place second)
+        ap (list_any (is_too_large MOST_NODES domains)) (take-append-add first second h.place)
+        ∙ list_any-append (is_too_large MOST_NODES domains) first (take h.place second)
         ∙ (λ i. a.none i || h.first.none_before i);
   };
   number_is = let c = h.number_is in let d = a.count in omega arith;

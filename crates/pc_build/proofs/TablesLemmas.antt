@@ -4,6 +4,7 @@ use Rattle.std.proofs.lemmas.Bool.{both_ways, ltb-true, ltb-false}
 use Rattle.std.proofs.lemmas.List.{ext_get_or, get_or-map, get_or_append_left, get_or_push, length_push, length-map, map-append, take-append-drop, drop_all, take-map, drop-map}
 use Rattle.std.proofs.lemmas.List.FromFn.{fill_by_all}
 use Rattle.std.proofs.lemmas.Option.{slice_get-get_or, same_Some}
+use Rattle.pc_diagram.specs.declared.limits.TheConstants.{MOST_NODES}
 use Rattle.pc_diagram.specs.declared.raw_diagram.RawDiagram.{RawDiagram}
 use Rattle.pc_diagram.specs.Diagram.{IsShapedLevel, IsCanonicalLevel, IsCanonical}
 use Rattle.pc_diagram.specs.Levels.{Level, level, levels, edge, as_level}
@@ -20,7 +21,8 @@ use Rattle.pc_store.specs.declared.id.Node.{Node}
 use Rattle.pc_store.specs.declared.store.Store.{Store}
 use Rattle.pc_store.specs.Layered.{IsDomain}
 use Rattle.pc_store.specs.Sets.{domains_of, id_at, IsIdAt, IsNodeAt, has}
-use Rattle.pc_build.specs.Extracts.{IsEmpty, Extracts, StandOnce}
+use Rattle.pc_store.proofs.SetLemmas.{one_set}
+use Rattle.pc_build.specs.Extracts.{IsEmpty, Extracts}
 use Rattle.pc_build.proofs.ExtractLemmas.{AreOver, not_word, some_word, EdgeAt, edge_at, next_at}
 use Rattle.pc_build.proofs.CanonicalLemmas.{AreKept, node_is, domains_split, some_next, layer_canonical, layer_shaped}
 
@@ -166,9 +168,9 @@ module _ (store : Store) (over : AreOver store) (set : Id) (is : IsIdAt store 0 
       subst IsShapedLevel (level_is v lt)
       (layer_shaped store over v lt (list v) (list (v + 1)) (table v) (h.layers v lt) (kept v (omega arith)) (h.domains_are v lt).1 (filled v (omega arith)))
 
-  canonical : StandOnce store → (v : ℕ) → v < count → IsCanonicalLevel (level raw v)
-  canonical stand v lt =
-      subst IsCanonicalLevel (level_is v lt) (layer_canonical store over v lt (list v) (list (v + 1)) (table v) (h.layers v lt) (kept v (omega arith)) stand)
+  canonical : (v : ℕ) → v < count → IsCanonicalLevel (level raw v)
+  canonical v lt =
+      subst IsCanonicalLevel (level_is v lt) (layer_canonical store over v lt (list v) (list (v + 1)) (table v) (h.layers v lt) (kept v (omega arith)))
 
   pub domains_same : raw.domains ≡ domains_of store
   domains_same = ext_get_or 0 raw.domains (domains_of store) h.domains_count (λ v lt. (h.domains_are v (let n = h.domains_count in omega arith)).0)
@@ -244,8 +246,8 @@ module _ (store : Store) (over : AreOver store) (set : Id) (is : IsIdAt store 0 
   words_same word = words_from count 0 (omega arith) 0 h.root (ap (λ l. slice_get l 0) h.first) word ∙ ap (λ s. has store s word) (sym h.root_is)
 
   -- past the last variable stands one node
-  terminal : StandOnce store → length (list count) ≡ 1
-  terminal stand = by (nat_lt 1 (length (list count))) refl
+  terminal : length (list count) ≡ 1
+  terminal = by (nat_lt 1 (length (list count))) refl
     where
       any_node : Node
       any_node = record { number = 0 }
@@ -267,38 +269,38 @@ module _ (store : Store) (over : AreOver store) (set : Id) (is : IsIdAt store 0 
           let at_b : slice_get (list count) 1 ≡ Some b = slice_get-get_or (list count) 1 any_node many in
           let is_a = here.at_layer 0 a at_a in
           let is_b = here.at_layer 1 b at_b in
-          let one : a ≡ b = node_is count a b (stand (id_at count a) (id_at count b) is_a.0 (is_b.0, is_b.1 ∙ sym is_a.1) (words 0 1 a b at_a at_b)) in
+          let one : a ≡ b = node_is count a b (sym (one_set store (id_at count a) (id_at count b) is_a.0 (is_b.0, is_b.1 ∙ sym is_a.1) (words 0 1 a b at_a at_b))) in
           let place : ◌≡◌ {A = ℕ} 0 1 = here.once 0 1 b (at_a ∙ ap Some one) at_b in
           absurd (omega arith)
 
   -- the levels lead from the root to each layer, and from there to the end
-  leads_to : StandOnce store → (k v : ℕ) → v + k ≤ count → Leads (get_or raw.sizes v 0) (take k (drop v (levels raw))) (get_or raw.sizes (v + k) 0)
-  leads_to stand zero v le = let same : v ≡ v + 0 = omega arith in ap (λ i. get_or raw.sizes i 0) same
-  leads_to stand (suc k) v le =
+  leads_to : (k v : ℕ) → v + k ≤ count → Leads (get_or raw.sizes v 0) (take k (drop v (levels raw))) (get_or raw.sizes (v + k) 0)
+  leads_to zero v le = let same : v ≡ v + 0 = omega arith in ap (λ i. get_or raw.sizes i 0) same
+  leads_to (suc k) v le =
       let lt : v < count = omega arith in
       let next : (v + 1) + k ≡ v + suc k = omega arith in
       subst (λ ls. Leads (get_or raw.sizes v 0) (take (suc k) ls) (get_or raw.sizes (v + suc k) 0)) (sym (drop-levels raw v (let n = h.domains_count in omega arith)))
-      (refl, shaped v lt, canonical stand v lt, subst (λ i. Leads (get_or raw.sizes (v + 1) 0) (take k (drop (v + 1) (levels raw))) (get_or raw.sizes i 0)) next (leads_to stand k (v + 1) (omega arith)))
+      (refl, shaped v lt, canonical v lt, subst (λ i. Leads (get_or raw.sizes (v + 1) 0) (take k (drop (v + 1) (levels raw))) (get_or raw.sizes i 0)) next (leads_to k (v + 1) (omega arith)))
 
-  chain_from : StandOnce store → (k v : ℕ) → v + k ≡ count → IsChain (get_or raw.sizes v 0) (drop v (levels raw))
-  chain_from stand zero v e =
+  chain_from : (k v : ℕ) → v + k ≡ count → IsChain (get_or raw.sizes v 0) (drop v (levels raw))
+  chain_from zero v e =
       let end : v ≡ count = omega arith in
-      subst (IsChain (get_or raw.sizes v 0)) (sym (drop-levels-end raw v (let n = h.domains_count in omega arith))) (ap (λ i. get_or raw.sizes i 0) end ∙ size_at count (omega arith) ∙ terminal stand)
-  chain_from stand (suc k) v e =
+      subst (IsChain (get_or raw.sizes v 0)) (sym (drop-levels-end raw v (let n = h.domains_count in omega arith))) (ap (λ i. get_or raw.sizes i 0) end ∙ size_at count (omega arith) ∙ terminal)
+  chain_from (suc k) v e =
       let lt : v < count = omega arith in
-      subst (IsChain (get_or raw.sizes v 0)) (sym (drop-levels raw v (let n = h.domains_count in omega arith))) (refl, shaped v lt, canonical stand v lt, chain_from stand k (v + 1) (omega arith))
+      subst (IsChain (get_or raw.sizes v 0)) (sym (drop-levels raw v (let n = h.domains_count in omega arith))) (refl, shaped v lt, canonical v lt, chain_from k (v + 1) (omega arith))
 
   root_size : get_or raw.sizes 0 0 ≡ 1
   root_size = size_at 0 (omega arith) ∙ ap length h.first
 
   -- each layer has as many nodes as the set has rests there
-  layer_counted : StandOnce store → (v : ℕ) → v ≤ count → get_or raw.sizes v 0 ≡ rest_count (has_word raw) (take v raw.domains) (drop v raw.domains)
-  layer_counted stand v le =
+  layer_counted : (v : ℕ) → v ≤ count → get_or raw.sizes v 0 ≡ rest_count (has_word raw) (take v raw.domains) (drop v raw.domains)
+  layer_counted v le =
       let ls = levels raw in
       let zeros : 0 + v ≡ v = omega arith in
-      let lead : Leads 1 (take v ls) (get_or raw.sizes v 0) = subst (λ n. Leads n (take v ls) (get_or raw.sizes v 0)) root_size (subst (λ i. Leads (get_or raw.sizes 0 0) (take v ls) (get_or raw.sizes i 0)) zeros (leads_to stand v 0 (omega arith))) in
+      let lead : Leads 1 (take v ls) (get_or raw.sizes v 0) = subst (λ n. Leads n (take v ls) (get_or raw.sizes v 0)) root_size (subst (λ i. Leads (get_or raw.sizes 0 0) (take v ls) (get_or raw.sizes i 0)) zeros (leads_to v 0 (omega arith))) in
       let left_over : ℕ = count - v in
-      let chain : IsChain (get_or raw.sizes v 0) (drop v ls) = chain_from stand left_over v (omega arith) in
+      let chain : IsChain (get_or raw.sizes v 0) (drop v ls) = chain_from left_over v (omega arith) in
       let front : map (λ l. l.domain) (take v ls) ≡ take v raw.domains = sym (take-map (λ (l : Level). l.domain) v ls) ∙ ap (take v) (domains-levels raw) in
       let back : map (λ l. l.domain) (drop v ls) ≡ drop v raw.domains = sym (drop-map (λ (l : Level). l.domain) v ls) ∙ ap (drop v) (domains-levels raw) in
       nodes_counted (take v ls) (drop v ls) (get_or raw.sizes v 0) lead chain ∙ (λ i. rest_count (accepts (take-append-drop v ls i) (Some 0)) (front i) (back i))
@@ -306,24 +308,24 @@ module _ (store : Store) (over : AreOver store) (set : Id) (is : IsIdAt store 0 
   sizes_count : length raw.sizes ≡ count + 1
   sizes_count = ap length h.sizes_are ∙ length-map h.lists length ∙ h.lists_count
 
-  all_counted : StandOnce store → sum raw.sizes ≡ size (domains_of store) (has store set)
-  all_counted stand =
+  all_counted : sum raw.sizes ≡ size (domains_of store) (has store set)
+  all_counted =
       let counted : ℕ → ℕ = λ layer. rest_count (has_word raw) (take layer raw.domains) (drop layer raw.domains) in
       let layers : length raw.sizes ≡ length raw.domains + 1 = sizes_count ∙ ap (λ n. n + 1) (sym h.domains_count) in
-      ap sum (fill_by_all counted raw.sizes (length raw.domains + 1) 0 layers (λ layer lt. layer_counted stand layer (let n = h.domains_count in omega arith)))
+      ap sum (fill_by_all counted raw.sizes (length raw.domains + 1) 0 layers (λ layer lt. layer_counted layer (let n = h.domains_count in omega arith)))
       ∙ (λ i. size (domains_same i) (λ word. words_same word i))
 
-  pub tables_canonical : 0 < count → count ≤ 64 → StandOnce store → size (domains_of store) (has store set) ≤ 262144 → IsCanonical raw
-  tables_canonical some_variable few_variables stand few = record {
+  pub tables_canonical : 0 < count → count ≤ 64 → size (domains_of store) (has store set) ≤ MOST_NODES → IsCanonical raw
+  tables_canonical some_variable few_variables few = record {
     shape = record {
       some_variables = let n = h.domains_count in omega arith;
       few_variables = let n = h.domains_count in omega arith;
       layers = sizes_count ∙ ap (λ n. n + 1) (sym h.domains_count);
       tables = h.edges_count ∙ sym h.domains_count;
       root = root_size;
-      terminal = ap (λ n. get_or raw.sizes n 0) h.domains_count ∙ size_at count (omega arith) ∙ terminal stand;
-      few_nodes = let all = all_counted stand in omega arith;
+      terminal = ap (λ n. get_or raw.sizes n 0) h.domains_count ∙ size_at count (omega arith) ∙ terminal;
+      few_nodes = let all = all_counted in omega arith;
       shaped = λ v lt. shaped v (let n = h.domains_count in omega arith);
     };
-    canonical = λ v lt. canonical stand v (let n = h.domains_count in omega arith);
+    canonical = λ v lt. canonical v (let n = h.domains_count in omega arith);
   }

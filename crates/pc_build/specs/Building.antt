@@ -1,14 +1,18 @@
 -- Making the sets of a file's rules, one after another.
-use Rattle.std.specs.Prelude.{◌≡◌, ℕ, ◌+◌, Bool, true, false, List, [], ◌++◌, length, take, drop}
+use Rattle.std.specs.Prelude.{◌≡◌, ℕ, ◌≤◌, Bool, true, false, List, [], ◌++◌, length, take, drop, slice_index}
 use Rattle.std.specs.List.{list_all, list_any}
+use Rattle.pc_diagram.specs.declared.limits.TheConstants.{MOST_NODES}
+use Rattle.pc_diagram.specs.declared.raw_diagram.RawDiagram.{RawDiagram}
+use Rattle.pc_diagram.specs.Rests.{rest_count}
 use Rattle.pc_store.specs.declared.id.Id.{Id}
 use Rattle.pc_store.specs.declared.store.Store.{Store}
 use Rattle.pc_file.specs.declared.variable.Variable.{Variable}
 use Rattle.pc_file.specs.declared.rule.Rule.{Rule}
 use Rattle.pc_file.specs.Contents.{Contents}
-use Rattle.pc_file.specs.Products.{value_counts, products}
+use Rattle.pc_file.specs.Full.{full_domains, full, is_full}
+use Rattle.pc_file.specs.Products.{value_counts}
 use Rattle.pc_file.specs.Rule.{holds}
-use Rattle.pc_file.specs.Parts.{is_too_large, IsFirst, sets_of, HasNoNodeLimit}
+use Rattle.pc_file.specs.Parts.{is_too_large, sets_of, compile_list, IsNodeLimit, HasNoNodeLimit}
 use Rattle.pc_build.specs.declared.fault.BuildFault.{BuildFault}
 use Rattle.pc_build.specs.declared.fault.BuildFault.TheVariants.{NodeLimit, NoProduct, NoMemory}
 use Rattle.pc_build.specs.Making.{Denotes}
@@ -20,29 +24,27 @@ pub record Joined (store : Store) (variables : List Variable) (rules : List Rule
   pub before : List (List (List ℕ → Bool))
   pub sets_are : sets_of variables (λ word. true) rules ≡ before ++ sets_of variables obeys (drop count rules)
   pub count_is : length before ≡ count
-  pub none : list_any (list_any (is_too_large (value_counts variables))) before ≡ false
+  pub none : list_any (list_any (is_too_large MOST_NODES (value_counts variables))) before ≡ false
   pub denotes : Denotes store obeys set
   pub words : (word : List ℕ) → obeys word ≡ list_all (holds variables word) (take count rules)
 
--- the first set that is too large, among those that are made of rules
-pub record IsLimit (variables : List Variable) (rules : List Rule) (rule part : ℕ) : Type 0 where
-  pub rule_place : ℕ
-  pub part_place : ℕ
-  pub sets : List (List ℕ → Bool)
-  pub set : List ℕ → Bool
-  pub rule_is : rule ≡ rule_place + 1
-  pub part_is : part ≡ part_place + 1
-  pub first_rule : IsFirst (list_any (is_too_large (value_counts variables))) (sets_of variables (λ word. true) rules) rule_place sets
-  pub first_part : IsFirst (is_too_large (value_counts variables)) sets part_place set
-
 -- a fault of joining rules comes exactly so
 abbrev pub IsJoinFault : List Variable → List Rule → BuildFault → Type 0
-IsJoinFault variables rules (NodeLimit rule part) = IsLimit variables rules rule part
+IsJoinFault variables rules (NodeLimit rule part) = IsNodeLimit MOST_NODES (value_counts variables) (sets_of variables (λ word. true) rules) rule part
 IsJoinFault variables rules NoProduct = ⊥
 IsJoinFault variables rules NoMemory = Unit {0}
 
--- a fault of building a file comes exactly so
+-- no set that is made of a file is too large
+abbrev pub IsSmall : Contents → Type 0
+IsSmall file = HasNoNodeLimit MOST_NODES (full_domains file) (compile_list file)
+
+-- a fault of compiling a file comes exactly so: first the first set that is too large, then that there is no product;
+-- want of memory may come in any case
 abbrev pub IsBuildFault : Contents → BuildFault → Type 0
-IsBuildFault file (NodeLimit rule part) = IsLimit file.variables file.rules rule part
-IsBuildFault file NoProduct = HasNoNodeLimit file × (products file ≡ [])
+IsBuildFault file (NodeLimit rule part) = IsNodeLimit MOST_NODES (full_domains file) (compile_list file) rule part
+IsBuildFault file NoProduct = IsSmall file × (full file ≡ [])
 IsBuildFault file NoMemory = Unit {0}
+
+-- each layer of a diagram has as many nodes as the words of a file have different non-empty rests after so many values
+abbrev pub HasNodeForEachRest : Contents → RawDiagram → Type 0
+HasNodeForEachRest file diagram = (layer : ℕ) → layer ≤ length (full_domains file) → slice_index diagram.sizes layer ≡ rest_count (is_full file) (take layer (full_domains file)) (drop layer (full_domains file))

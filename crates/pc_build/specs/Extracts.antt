@@ -2,10 +2,9 @@
 use Rattle.std.specs.Prelude.{◌≡◌, ℕ, ◌+◌, List, false, Option, None, Some, length, slice_get, slice_index_or}
 use Rattle.std.specs.List.{range_with_len, flat_map}
 use Rattle.pc_diagram.specs.DiagramFaults.{met}
-use Rattle.pc_store.specs.declared.id.Id.{Id}
 use Rattle.pc_store.specs.declared.id.Node.{Node}
 use Rattle.pc_store.specs.declared.store.Store.{Store}
-use Rattle.pc_store.specs.Sets.{layer_of, id_at, IsId, IsIdAt, has, SameWords}
+use Rattle.pc_store.specs.Sets.{id_at, has}
 use Rattle.pc_apply.specs.Lists.{AreRows}
 
 -- a set of a layer has no word
@@ -30,7 +29,3 @@ pub record Extracts (store : Store) (layer : ℕ) (nodes next : List Node) (edge
   pub rows : List (List Node)
   pub are_rows : AreRows store layer nodes rows
   pub are_edges : AreEdges store (layer + 1) (flat_map (λ row. row) rows) next edges
-
--- each set of a store stands once: ids of one layer with the same words are one
-abbrev pub StandOnce : Store → Type 0
-StandOnce store = (a b : Id) → IsId store a → IsIdAt store (layer_of a) b → SameWords store a b → a ≡ b

@@ -1,6 +1,7 @@
 -- Making the sets of words of rules and of their parts.
 use Rattle.std.specs.Prelude.{◌≡◌, ℕ, ◌+◌, ◌&&◌, Bool, true, false, List, Some, Result, Ok, Err, length, slice_get}
 use Rattle.std.specs.List.{list_all, list_any}
+use Rattle.pc_diagram.specs.declared.limits.TheConstants.{MOST_NODES}
 use Rattle.pc_diagram.specs.Words.{is_word}
 use Rattle.pc_store.specs.declared.id.Id.{Id}
 use Rattle.pc_store.specs.declared.store.Store.{Store}
@@ -32,14 +33,14 @@ pub record DenoteEach (store : Store) (variables : List Variable) (rules : List 
 
 -- the sets of all parts were made, so many more than before, and none of them is too large
 pub record AllMade (domains : List ℕ) (parts : List (List ℕ → Bool)) (old new : ℕ) : Type 0 where
-  pub none : list_any (is_too_large domains) parts ≡ false
+  pub none : list_any (is_too_large MOST_NODES domains) parts ≡ false
   pub count : new ≡ old + length parts
 
 -- the first set that is too large has this number, where so many parts came before
 pub record StopsAt (domains : List ℕ) (parts : List (List ℕ → Bool)) (old number : ℕ) : Type 0 where
   pub place : ℕ
   pub part : List ℕ → Bool
-  pub first : IsFirst (is_too_large domains) parts place part
+  pub first : IsFirst (is_too_large MOST_NODES domains) parts place part
   pub number_is : number ≡ old + place + 1
 
 -- making stopped with a fault: at a set that is too large, or for want of memory, wherever that was

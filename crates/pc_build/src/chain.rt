@@ -61,7 +61,6 @@ pub(crate) fn widen(store: &mut Store, from: u32, to: u32, below: Id) -> Result<
     ensures set { IfOk result (λ id. (word : List ℕ) → has store.new id word ≡ (is_word (drop to (domains_of store.old)) word && has store.old below (drop (from - to) word))) }
     ensures keeps { Keeps store.old store.new }
 {
-    store.words_are_over_domains();
     let mut wide = below;
     for step in 0..from - to {
         wide = lengthen(store, from - 1 - step, wide)?;

@@ -12,7 +12,7 @@ use pc_store::{Id, Store};
 
 /// The words that take one of these values at a variable. Values that the variable doesn't have are taken by no word.
 /// Want of memory leaves the store as it was but for more nodes.
-pub fn takes_one_of(store: &mut Store, variable: u32, values: &[u32]) -> Result<Id, NoMemory>
+pub(crate) fn takes_one_of(store: &mut Store, variable: u32, values: &[u32]) -> Result<Id, NoMemory>
     requires { variable < length (domains_of store.old) }
     ensures is_id { IfOk result (IsIdAt store.new 0) }
     ensures set { IfOk result (λ id. (word : List ℕ) → has store.new id word ≡ (is_word (domains_of store.old) word && list_any (takes word variable) values.now)) }

@@ -11,11 +11,9 @@ ghost use Rattle.pc_build.specs.Making.{IsSpelled, AreSpelled, Denotes, DenoteEa
 use crate::fault::PartFault;
 use crate::over_subrules::set_over_subrules;
 use pc_base::Sequence;
+use pc_diagram::MOST_NODES;
 use pc_file::{Rule, Variable};
 use pc_store::{Id, Store};
-
-/// The most nodes of a set that is made.
-const MOST_NODES: u64 = 262_144;
 
 /// The set of a rule. The parts that are made are counted; where one is too large, those before it were.
 #[cycle(parts)]

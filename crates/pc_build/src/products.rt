@@ -3,21 +3,22 @@
 ghost use Rattle.std.specs.Prelude.{◌≡◌, ◌≢◌, ◌≤◌, [], ℕ, IfOk, IfErr};
 ghost use Rattle.pc_diagram.specs.Rests.{size};
 ghost use Rattle.pc_store.specs.Sets.{domains_of, has};
-ghost use Rattle.pc_file.specs.Products.{value_counts, obeys, products};
-ghost use Rattle.pc_file.specs.Parts.{HasNoNodeLimit};
+ghost use Rattle.pc_file.specs.Full.{full_domains, full};
+ghost use Rattle.pc_file.specs.Products.{value_counts, obeys};
 ghost use Rattle.pc_build.specs.Making.{Denotes};
-ghost use Rattle.pc_build.specs.Building.{IsBuildFault};
+ghost use Rattle.pc_build.specs.Building.{IsSmall, IsBuildFault};
 
 use crate::fault::BuildFault;
 use crate::rules::set_of_rules;
 use pc_base::{NoMemory, Sequence};
+use pc_diagram::MOST_NODES;
 use pc_file::{File, Variable};
 use pc_store::{Id, Store};
 use std::alloc::Global;
 
 /// A store over the numbers of values of a file's variables, and in it the set of the file's products.
 #[derive(Debug, Drop)]
-pub struct ProductSet {
+pub(crate) struct ProductSet {
     pub store: Store,
     pub set: Id,
 }
@@ -28,12 +29,12 @@ pub struct ProductSet {
 ///
 /// The first set on the way that is too large; else that there is no product; or want of memory, which may come in any
 /// case.
-pub fn set_of_products(alloc: Global, file: &File) -> Result<ProductSet, BuildFault>
-    ensures domains { IfOk result (λ made. domains_of made.store ≡ value_counts file.now.variables) }
+pub(crate) fn set_of_products(alloc: Global, file: &File) -> Result<ProductSet, BuildFault>
+    ensures domains { IfOk result (λ made. domains_of made.store ≡ full_domains file.now) }
     ensures set { IfOk result (λ made. Denotes made.store (obeys file.now) made.set) }
-    ensures nodes { IfOk result (λ made. size (domains_of made.store) (has made.store made.set) ≤ 262144) }
-    ensures some { IfOk result (λ _. products file.now ≢ []) }
-    ensures small { IfOk result (λ _. HasNoNodeLimit file.now) }
+    ensures nodes { IfOk result (λ made. size (domains_of made.store) (has made.store made.set) ≤ MOST_NODES) }
+    ensures some { IfOk result (λ _. full file.now ≢ []) }
+    ensures small { IfOk result (λ _. IsSmall file.now) }
     ensures fault { IfErr result (IsBuildFault file.now) }
 {
     let domains = domains_of(alloc, file.variables())?;

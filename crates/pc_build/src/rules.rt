@@ -12,6 +12,7 @@ ghost use Rattle.pc_build.specs.Building.{Joined, IsJoinFault};
 use crate::fault::{BuildFault, PartFault};
 use crate::parts::{count_part, set_of_rule};
 use pc_apply::and;
+use pc_diagram::MOST_NODES;
 use pc_file::{Rule, Variable};
 use pc_store::{Id, Store};
 
@@ -25,7 +26,7 @@ pub(crate) fn set_of_rules(
     requires spelled { AreSpelled variables.now rules.now }
     requires few { length rules.now < 2 ^ 32 }
     ensures set { IfOk result (Denotes store.new (λ word. list_all (holds variables.now word) rules.now)) }
-    ensures small { IfOk result (λ _. list_any (list_any (is_too_large (value_counts variables.now))) (sets_of variables.now (λ word. true) rules.now) ≡ false) }
+    ensures small { IfOk result (λ _. list_any (list_any (is_too_large MOST_NODES (value_counts variables.now))) (sets_of variables.now (λ word. true) rules.now) ≡ false) }
     ensures fault { IfErr result (IsJoinFault variables.now rules.now) }
     ensures keeps { Keeps store.old store.new }
 {

@@ -16,7 +16,7 @@ use pc_store::{Id, Store};
 
 /// The words whose values at two variables have the same name. The variables may be one, which gives all words. Want of
 /// memory leaves the store as it was but for more nodes.
-pub fn same_names(
+pub(crate) fn same_names(
     store: &mut Store,
     variables: &[Variable],
     variable: u32,

@@ -13,7 +13,7 @@ use pc_store::{Id, Store};
 
 /// The words that take the values of some row at the table's variables, which may stand in any order. Want of memory
 /// leaves the store as it was but for more nodes.
-pub fn rows_of_table(
+pub(crate) fn rows_of_table(
     store: &mut Store,
     variables: &[u32],
     rows: &[Sequence<u32>],

@@ -5,12 +5,11 @@ ghost use Rattle.pc_diagram.specs.Diagram.{IsCanonical};
 ghost use Rattle.pc_diagram.specs.Paths.{has_word};
 ghost use Rattle.pc_diagram.specs.Rests.{size};
 ghost use Rattle.pc_store.specs.Sets.{domains_of, IsIdAt, has};
-ghost use Rattle.pc_build.specs.Extracts.{StandOnce};
 
 use crate::edges::{Edges, edges_of, number};
 use indexmap::IndexSet;
 use pc_base::{NoMemory, Sequence};
-use pc_diagram::RawDiagram;
+use pc_diagram::{MOST_NODES, RawDiagram};
 use pc_store::{Id, Store};
 
 /// The tables of the diagram of a set that has a word. Each layer has the nodes that the words of the set lead to, in
@@ -20,10 +19,9 @@ pub(crate) fn tables_of(store: &Store, set: Id) -> Result<RawDiagram, NoMemory>
     requires some { (word : List ℕ) × (has store.now set word ≡ true) }
     ensures domains { IfOk result (λ raw. raw.domains ≡ domains_of store.now) }
     ensures words { IfOk result (λ raw. (word : List ℕ) → has_word raw word ≡ has store.now set word) }
-    ensures canonical { IfOk result (λ raw. StandOnce store.now → size (domains_of store.now) (has store.now set) ≤ 262144 → IsCanonical raw) }
+    ensures canonical { IfOk result (λ raw. size (domains_of store.now) (has store.now set) ≤ MOST_NODES → IsCanonical raw) }
 {
     let alloc = store.allocator();
-    store.words_are_over_domains();
     let mut raw = RawDiagram {
         domains: Sequence::new(alloc),
         sizes: Sequence::new(alloc),

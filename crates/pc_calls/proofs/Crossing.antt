@@ -24,7 +24,7 @@ use Rattle.pc_file.specs.contracts.variable.Variable as variable_type
 use Rattle.pc_file.proofs.rule.Rule.TheLaws.TheKnot as rule
 use Rattle.pc_file.specs.contracts.rule.Rule as rule_type
 use Rattle.pc_file.specs.contracts.file.File as file_type
-use Rattle.pc_calls.specs.contracts.shared_file.SharedFile as shared_type
+use Rattle.pc_file.specs.contracts.shared_file.SharedFile as shared_type
 use Rattle.pc_calls.specs.contracts.call.Call as call_type
 use Rattle.pc_calls.specs.contracts.entry.Entry as entry_type
 use Rattle.pc_calls.specs.contracts.head.Head as head_type

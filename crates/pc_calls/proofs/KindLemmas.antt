@@ -5,9 +5,9 @@ use Rattle.std.specs.Fmt.{signed_decimal, decimal}
 use Rattle.std.proofs.lemmas.Bool.Decides.{nat_tests}
 use Rattle.std.proofs.lemmas.Int.{ints}
 use Rattle.pc_names.specs.Name.{is_name}
-use Rattle.pc_names.specs.Number.{is_small, int_of}
+use Rattle.pc_names.specs.Number.{is_small, int_of, not_negative, unsigned_of}
 use Rattle.pc_names.proofs.Written.{int_of_spelling, int_of_found}
-use Rattle.pc_calls.specs.CommandReader.{not_negative, unsigned_of, line_count_of, name_of}
+use Rattle.pc_calls.specs.CommandReader.{line_count_of, name_of}
 use Rattle.pc_calls.specs.CallWords.{IsUnsigned, IsName}
 
 small_fits : (z : ℤ) → is_small z ≡ true → FitsSigned w64 z

@@ -10,7 +10,7 @@ use Rattle.std.proofs.lemmas.List.Sums.{passes_at_first}
 use Rattle.std.specs.Prelude.{nat_lt}
 use Rattle.pc_names.specs.Spaces.{is_space, goes_on}
 use Rattle.pc_names.proofs.SpaceLemmas.{front, front-space, front-byte}
-use Rattle.pc_calls.specs.LineWords.{Word, joined, words_at, words_from}
+use Rattle.pc_calls.specs.LineWords.{LineWord, joined, words_at, words_from}
 
 words_at-space : (place b : ℕ) (bs : List ℕ) → is_space b ≡ true → words_at place (b ∷ bs) ≡ words_at (place + 1) bs
 unfolding words_at
@@ -50,7 +50,7 @@ skip place (b ∷ bs) =
     ]
 
 -- what comes of bytes after a first word of these bytes
-abbrev after : ℕ → List ℕ → List ℕ → List Word
+abbrev after : ℕ → List ℕ → List ℕ → List LineWord
 after place word bytes = record { place = place; bytes = word } ∷ words_at (place + length word) (drop (length word) bytes)
 
 -- a word reaches up to the first space

@@ -8,19 +8,19 @@ use Rattle.pc_calls.specs.declared.call.Call.{Call}
 use Rattle.pc_calls.specs.declared.call.Call.TheVariants as call
 use Rattle.pc_calls.specs.declared.outcome.Outcome.{Outcome}
 use Rattle.pc_calls.specs.declared.outcome.Outcome.TheVariants.{NoSession, NoVersion, SessionsFull, NoProduct, Stale, ShelvesFull}
-use Rattle.pc_calls.specs.Answer.{Answer, ◌>>=◌, ◌>>◌, required, refused_where}
+use Rattle.pc_calls.specs.Decision.{Decision, ◌>>=◌, ◌>>◌, required, refused_where}
 use Rattle.pc_calls.specs.History.{is_present}
 use Rattle.pc_calls.specs.Kept.{IsKept}
 use Rattle.pc_calls.specs.Selection.{Selection, choose, retract, show}
 use Rattle.pc_calls.specs.State.{Caller, OpenSession, State, Version, current, file_of, is_owned, is_session, live_versions, numbered, open_sessions, opened_by, session_of}
-use Rattle.pc_calls.specs.Step.{after, asking, change_first, change_numbered, drop_first, given, gone, in_session, newcomer, state_of, with_opened, with_selection}
+use Rattle.pc_calls.specs.Step.{after, asking, change_first, change_numbered, drop_first, step, gone, has_row, in_session, newcomer, state_of, with_opened, with_selection}
 
 -- what holds before, and after each accepted outcome, holds after
-through : {A : Type 0} (P : State → Type 0) (before : State) (result : Answer A) (next : A → Answer State) → P before → ((x : A) → P (state_of before (next x))) → P (state_of before (result >>= next))
+through : {A : Type 0} (P : State → Type 0) (before : State) (result : Decision A) (next : A → Decision State) → P before → ((x : A) → P (state_of before (next x))) → P (state_of before (result >>= next))
 through P before (Ok x) next base step = step x
 through P before (Err refusal) next base step = base
 
-through-session : (P : State → Type 0) (caller number : ℕ) (ask : Contents → Selection → Answer Selection) (before : State) → P before → ((selection : Selection) → P (with_selection caller number selection before)) → P (state_of before (in_session caller number ask before))
+through-session : (P : State → Type 0) (caller number : ℕ) (ask : Contents → Selection → Decision Selection) (before : State) → P before → ((selection : Selection) → P (with_selection caller number selection before)) → P (state_of before (in_session caller number ask before))
 through-session P caller number ask before base step =
     through P before (required (session_of before caller number) NoSession) (λ session. required (file_of before session.version) NoSession >>= (λ file. ask file session.selection >>= (λ selection. Ok (with_selection caller number selection before)))) base
     (λ session. through P before (required (file_of before session.version) NoSession) (λ file. ask file session.selection >>= (λ selection. Ok (with_selection caller number selection before))) base
@@ -66,8 +66,8 @@ file-more versions more version None file is e = absurd cc
 file-more versions more zero (Some v) file is e = absurd cc
 file-more versions more (suc place) (Some v) file is e = ap (option_map (λ (w : Version). w.file)) (slice_get-more versions more place v is) ∙ e
 
-pub keeps_file : (caller : ℕ) (said : Call) (state : State) (version : ℕ) (file : Contents) → file_of state version ≡ Some file → file_of (after caller said state) version ≡ Some file
-keeps_file caller said state version file h =
+pub keeps_file : (caller : ℕ) (said : Call) (state : State) (version : ℕ) (file : Contents) → has_row said ≡ true → file_of state version ≡ Some file → file_of (after caller said state) version ≡ Some file
+keeps_file caller said state version file row h =
     after-any (λ s. file_of s version ≡ Some file) caller state h h h (λ number selection. h) (λ number. h) (λ new. file-more state.versions _ version (numbered state.versions version) file refl h) h said
 
 -- ---- sessions
@@ -96,8 +96,8 @@ asking-keeps : (caller : ℕ) (state : State) (selection : Selection) (s : OpenS
 asking-keeps caller state selection s (inl was) = inl (record { before = was.before; is_open = was.is_open; same_owner = was.same_owner; same_number = was.same_number; same_version = was.same_version })
 asking-keeps caller state selection s (inr next) = inr next
 
-pub keeps_sessions : (caller : ℕ) (said : Call) (state : State) → All (IsKept caller state) (after caller said state).sessions
-keeps_sessions caller said state =
+pub keeps_sessions : (caller : ℕ) (said : Call) (state : State) → has_row said ≡ true → All (IsKept caller state) (after caller said state).sessions
+keeps_sessions caller said state row =
     let P : OpenSession → Type 0 = IsKept caller state in
     let all : All P state.sessions = implied (Contains state.sessions) P (λ s here. inl (record { before = s; is_open = here; same_owner = refl; same_number = refl; same_version = refl })) state.sessions (All-contains_itself state.sessions) in
     after-any (λ s. All P s.sessions) caller state all all
@@ -126,9 +126,9 @@ more-grows [] place = omega arith
 more-grows (c ∷ callers) zero = omega arith
 more-grows (c ∷ callers) (suc place) = more-grows callers place
 
-pub opened_grows : (caller : ℕ) (said : Call) (state : State) (owner : ℕ) → opened_by state owner ≤ opened_by (after caller said state) owner
-opened_grows caller said state zero = omega arith
-opened_grows caller said state (suc place) =
+pub opened_grows : (caller : ℕ) (said : Call) (state : State) (owner : ℕ) → has_row said ≡ true → opened_by state owner ≤ opened_by (after caller said state) owner
+opened_grows caller said state zero row = omega arith
+opened_grows caller said state (suc place) row =
     let same : opened_by state (suc place) ≤ opened_by state (suc place) = omega arith in
     after-any (λ s. opened_by state (suc place) ≤ opened_by s (suc place)) caller state same
     (more-grows state.callers place)
@@ -147,12 +147,12 @@ counts-by callers caller None is present = absurd cc
 counts-by callers zero (Some c) is present = absurd cc
 counts-by callers (suc place) (Some c) is present = change-counts callers place c is
 
-past : (stands : Bool) (refusal : Outcome) (next : Answer State) (later : State) → (refused_where stands refusal >> next) ≡ Ok later → next ≡ Ok later
+past : (stands : Bool) (refusal : Outcome) (next : Decision State) (later : State) → (refused_where stands refusal >> next) ≡ Ok later → next ≡ Ok later
 past true refusal next later e = absurd cc
 past false refusal next later e = e
 
-pub open_counts : (caller : ℕ) (state later : State) → is_present state caller ≡ true → given caller call.Open state ≡ Ok later → opened_by later caller ≡ opened_by state caller + 1
+pub open_counts : (caller : ℕ) (state later : State) → is_present state caller ≡ true → step caller call.Open state ≡ Ok later → opened_by later caller ≡ opened_by state caller + 1
 open_counts caller state later present gives =
     let first = past (current state == 0) NoVersion _ later gives in
     let second = past (nat_le 64 (open_sessions state caller)) SessionsFull _ later first in
-    ap (λ (a : Answer State). opened_by (state_of state a) caller) (sym second) ∙ counts-by state.callers caller (numbered state.callers caller) refl present
+    ap (λ (a : Decision State). opened_by (state_of state a) caller) (sym second) ∙ counts-by state.callers caller (numbered state.callers caller) refl present

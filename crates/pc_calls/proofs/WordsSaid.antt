@@ -3,7 +3,7 @@ use Rattle.std.proofs.Common.{◌≡◌, ℕ, ℤ, Bool, true, false, cond, List
 use Rattle.std.specs.Prelude.{IfOk}
 use Rattle.std.specs.Fmt.{signed_decimal, decimal}
 use Rattle.std.proofs.lemmas.List.{append-nil}
-use Rattle.pc_names.specs.Number.{int_of}
+use Rattle.pc_names.specs.Number.{int_of, unsigned_of}
 use Rattle.pc_names.proofs.Written.{int_of_spelling}
 use Rattle.pc_names.proofs.Places.{name_eq-Decides}
 use Rattle.pc_names.specs.Spelling.{same_spelling}
@@ -13,24 +13,24 @@ use Rattle.pc_calls.specs.declared.command.Command.{Command}
 use Rattle.pc_calls.specs.declared.command.Command.TheVariants as command
 use Rattle.pc_calls.specs.declared.line_call.LineCall.{LineCall}
 use Rattle.pc_calls.specs.declared.line_call.LineCall.TheVariants.{Whole, PublishHead}
-use Rattle.pc_calls.specs.LineWords.{Word, words_from}
-use Rattle.pc_calls.specs.CommandReader.{Rest, rest_of, Reader, ◌>>=◌, ◌>>◌, pure, and_then, word_of_kind, said, end, none_of, flag, wrong, unsigned_of, line_count_of, name_of}
+use Rattle.pc_calls.specs.LineWords.{LineWord, words_from}
+use Rattle.pc_calls.specs.CommandReader.{Rest, rest_of, WordReader, ◌>>=◌, ◌>>◌, pure, and_then, word_of_kind, said, end, none_of, flag, wrong, line_count_of, name_of}
 use Rattle.pc_calls.specs.CommandLine.{command_of, arguments, command_line, value_of, line_call}
 use Rattle.pc_calls.specs.CallWords.{spellings, call_words, IsSayable, IsUnsigned, IsName}
 use Rattle.pc_calls.proofs.KindLemmas.{IsCount, number_read, unsigned_read, unsigned_again, line_count_read, line_count_again, name_read, name_again}
 
-abbrev rest : List Word → ℕ → Rest
+abbrev rest : List LineWord → ℕ → Rest
 rest words n = record { words = words; line_length = n }
 
 -- ---- what is read is said
 
 -- what was read before, with the words that are left, is what the call says, with those that are left after it
-record Tells (before : List (List ℕ)) (words : List Word) (found : LineCall × Rest) : Type 0 where
+record Tells (before : List (List ℕ)) (words : List LineWord) (found : LineCall × Rest) : Type 0 where
   sayable : IsSayable found.0
   same : before ++ spellings words ≡ call_words found.0 ++ spellings found.1.words
 
-record Told (reader : Reader LineCall) (before : List (List ℕ)) : Type 0 where
-  told : (words : List Word) (n : ℕ) (found : LineCall × Rest) → reader (rest words n) ≡ Ok found → Tells before words found
+record Told (reader : WordReader LineCall) (before : List (List ℕ)) : Type 0 where
+  told : (words : List LineWord) (n : ℕ) (found : LineCall × Rest) → reader (rest words n) ≡ Ok found → Tells before words found
 
 pure_told : (said : LineCall) → IsSayable said → Told (pure said) (call_words said)
 pure_told said sayable = record {
@@ -39,9 +39,9 @@ pure_told said sayable = record {
       subst (Tells (call_words said) words) same (record { sayable = sayable; same = refl });
 }
 
-word_tells : {A : Type 0} (read : List ℕ → Option A) (spelling : A → List ℕ) (IsGood : A → Type 0) (f : A → Reader LineCall) (before : List (List ℕ)) →
+word_tells : {A : Type 0} (read : List ℕ → Option A) (spelling : A → List ℕ) (IsGood : A → Type 0) (f : A → WordReader LineCall) (before : List (List ℕ)) →
     ((bytes : List ℕ) (a : A) → read bytes ≡ Some a → (bytes ≡ spelling a) × IsGood a) → ((a : A) → IsGood a → Told (f a) (before ++ spelling a ∷ [])) →
-    (words : List Word) (n : ℕ) (found : LineCall × Rest) → (word_of_kind read >>= f) (rest words n) ≡ Ok found → Tells before words found
+    (words : List LineWord) (n : ℕ) (found : LineCall × Rest) → (word_of_kind read >>= f) (rest words n) ≡ Ok found → Tells before words found
 unfolding word_of_kind
 word_tells read spelling IsGood f before reads goes [] n found e = absurd cc
 word_tells {A} read spelling IsGood f before reads goes (word ∷ words) n found e = at_word (read word.bytes) refl e
@@ -56,25 +56,25 @@ word_tells {A} read spelling IsGood f before reads goes (word ∷ words) n found
           same = ap (λ bytes. before ++ bytes ∷ spellings words) parts.0 ∙ sym (append_assoc before (spelling a ∷ []) (spellings words)) ∙ after.same;
         }
 
-word_told : {A : Type 0} (read : List ℕ → Option A) (spelling : A → List ℕ) (IsGood : A → Type 0) (f : A → Reader LineCall) (before : List (List ℕ)) →
+word_told : {A : Type 0} (read : List ℕ → Option A) (spelling : A → List ℕ) (IsGood : A → Type 0) (f : A → WordReader LineCall) (before : List (List ℕ)) →
     ((bytes : List ℕ) (a : A) → read bytes ≡ Some a → (bytes ≡ spelling a) × IsGood a) → ((a : A) → IsGood a → Told (f a) (before ++ spelling a ∷ [])) →
     Told (word_of_kind read >>= f) before
 word_told read spelling IsGood f before reads goes = record { told = word_tells read spelling IsGood f before reads goes }
 
-unsigned_told : (f : ℕ → Reader LineCall) (before : List (List ℕ)) → ((a : ℕ) → IsUnsigned a → Told (f a) (before ++ decimal a ∷ [])) → Told (word_of_kind unsigned_of >>= f) before
+unsigned_told : (f : ℕ → WordReader LineCall) (before : List (List ℕ)) → ((a : ℕ) → IsUnsigned a → Told (f a) (before ++ decimal a ∷ [])) → Told (word_of_kind unsigned_of >>= f) before
 unsigned_told f before = word_told unsigned_of decimal IsUnsigned f before unsigned_read
 
-line_count_told : (f : ℕ → Reader LineCall) (before : List (List ℕ)) → ((a : ℕ) → IsCount a → Told (f a) (before ++ decimal a ∷ [])) → Told (word_of_kind line_count_of >>= f) before
+line_count_told : (f : ℕ → WordReader LineCall) (before : List (List ℕ)) → ((a : ℕ) → IsCount a → Told (f a) (before ++ decimal a ∷ [])) → Told (word_of_kind line_count_of >>= f) before
 line_count_told f before = word_told line_count_of decimal IsCount f before line_count_read
 
-number_told : (f : ℤ → Reader LineCall) (before : List (List ℕ)) → ((a : ℤ) → FitsSigned w64 a → Told (f a) (before ++ signed_decimal a ∷ [])) → Told (word_of_kind int_of >>= f) before
+number_told : (f : ℤ → WordReader LineCall) (before : List (List ℕ)) → ((a : ℤ) → FitsSigned w64 a → Told (f a) (before ++ signed_decimal a ∷ [])) → Told (word_of_kind int_of >>= f) before
 number_told f before = word_told int_of signed_decimal (FitsSigned w64) f before number_read
 
-name_told : (f : List ℕ → Reader LineCall) (before : List (List ℕ)) → ((a : List ℕ) → IsName a → Told (f a) (before ++ a ∷ [])) → Told (word_of_kind name_of >>= f) before
+name_told : (f : List ℕ → WordReader LineCall) (before : List (List ℕ)) → ((a : List ℕ) → IsName a → Told (f a) (before ++ a ∷ [])) → Told (word_of_kind name_of >>= f) before
 name_told f before = word_told name_of (λ name. name) IsName f before name_read
 
-flag_tells : (spelling : List ℕ) (f : Bool → Reader LineCall) (before : List (List ℕ)) → Told (f false) before → Told (f true) (before ++ spelling ∷ []) →
-    (words : List Word) (n : ℕ) (found : LineCall × Rest) → (flag spelling >>= f) (rest words n) ≡ Ok found → Tells before words found
+flag_tells : (spelling : List ℕ) (f : Bool → WordReader LineCall) (before : List (List ℕ)) → Told (f false) before → Told (f true) (before ++ spelling ∷ []) →
+    (words : List LineWord) (n : ℕ) (found : LineCall × Rest) → (flag spelling >>= f) (rest words n) ≡ Ok found → Tells before words found
 unfolding flag
 flag_tells spelling f before without with_it [] n found e = without.told [] n found e
 flag_tells spelling f before without with_it (word ∷ words) n found e = at_word (same_spelling word.bytes spelling) refl e
@@ -89,7 +89,7 @@ flag_tells spelling f before without with_it (word ∷ words) n found e = at_wor
           same = ap (λ bytes. before ++ bytes ∷ spellings words) bytes_are ∙ sym (append_assoc before (spelling ∷ []) (spellings words)) ∙ after.same;
         }
 
-flag_told : (spelling : List ℕ) (f : Bool → Reader LineCall) (before : List (List ℕ)) → Told (f false) before → Told (f true) (before ++ spelling ∷ []) → Told (flag spelling >>= f) before
+flag_told : (spelling : List ℕ) (f : Bool → WordReader LineCall) (before : List (List ℕ)) → Told (f false) before → Told (f true) (before ++ spelling ∷ []) → Told (flag spelling >>= f) before
 flag_told spelling f before without with_it = record { told = flag_tells spelling f before without with_it }
 
 -- the word of a command
@@ -124,11 +124,11 @@ arguments_told command.Versions = pure_told _ tt
 arguments_told command.Leave = pure_told _ tt
 
 -- a call whose words are those of the line
-record Said (words : List Word) (said : LineCall) : Type 0 where
+record Said (words : List LineWord) (said : LineCall) : Type 0 where
   sayable : IsSayable said
   same : spellings words ≡ call_words said
 
-at_end : (before : List (List ℕ)) (words : List Word) (x : LineCall × Rest) (left : List Word) → x.1.words ≡ left → Tells before words x →
+at_end : (before : List (List ℕ)) (words : List LineWord) (x : LineCall × Rest) (left : List LineWord) → x.1.words ≡ left → Tells before words x →
     (found : LineCall × Rest) → and_then (none_of left x.1) (λ _. pure x.0) ≡ Ok found → IsSayable found.0 × (before ++ spellings words ≡ call_words found.0)
 at_end before words x (more ∷ left) is tells found e = absurd cc
 at_end before words x [] is tells found e =
@@ -136,10 +136,10 @@ at_end before words x [] is tells found e =
     subst (λ c. IsSayable c × (before ++ spellings words ≡ call_words c)) same
     (tells.sayable, tells.same ∙ ap (λ left. call_words x.0 ++ spellings left) is ∙ append-nil (call_words x.0))
 
-abbrev ended : LineCall → Reader LineCall
+abbrev ended : LineCall → WordReader LineCall
 ended call = end >> pure call
 
-whole_tells : (before : List (List ℕ)) (words : List Word) (n : ℕ) (r : Reader LineCall) → Told r before → (outcome : Result (LineCall × Rest) BadColumn) → r (rest words n) ≡ outcome →
+whole_tells : (before : List (List ℕ)) (words : List LineWord) (n : ℕ) (r : WordReader LineCall) → Told r before → (outcome : Result (LineCall × Rest) BadColumn) → r (rest words n) ≡ outcome →
     (found : LineCall × Rest) → and_then outcome ended ≡ Ok found → IsSayable found.0 × (before ++ spellings words ≡ call_words found.0)
 unfolding end
 whole_tells before words n r told (Err column) is found e = absurd cc
@@ -164,7 +164,7 @@ command_read bytes c e =
     command_is bytes c command.Rebase _ e (λ e. command_is bytes c command.Close _ e (λ e. command_is bytes c command.Publish _ e (λ e.
     command_is bytes c command.Reclaim _ e (λ e. command_is bytes c command.Versions _ e (λ e. command_is bytes c command.Leave _ e (λ e. absurd cc))))))))))))
 
-line_tells : (words : List Word) (n : ℕ) (found : LineCall × Rest) → command_line (rest words n) ≡ Ok found → Said words found.0
+line_tells : (words : List LineWord) (n : ℕ) (found : LineCall × Rest) → command_line (rest words n) ≡ Ok found → Said words found.0
 unfolding command_line word_of_kind
 line_tells [] n found e = absurd cc
 line_tells (word ∷ words) n found e = at_command (command_of word.bytes) refl e
@@ -189,10 +189,10 @@ read_is_said line from result is = subst (λ r. IfOk r (Says line from)) (sym is
 -- ---- what is said is read
 
 -- of words with these spellings all are read, as the call
-record Takes (reader : Reader LineCall) (words_said : List (List ℕ)) (c : LineCall) : Type 0 where
-  takes : (words : List Word) (n : ℕ) → spellings words ≡ words_said → (reader >>= ended) (rest words n) ≡ Ok (c, rest [] n)
+record Takes (reader : WordReader LineCall) (words_said : List (List ℕ)) (c : LineCall) : Type 0 where
+  takes : (words : List LineWord) (n : ℕ) → spellings words ≡ words_said → (reader >>= ended) (rest words n) ≡ Ok (c, rest [] n)
 
-pure_reads : (c : LineCall) (words : List Word) (n : ℕ) → spellings words ≡ [] → (pure c >>= ended) (rest words n) ≡ Ok (c, rest [] n)
+pure_reads : (c : LineCall) (words : List LineWord) (n : ℕ) → spellings words ≡ [] → (pure c >>= ended) (rest words n) ≡ Ok (c, rest [] n)
 unfolding end
 pure_reads c [] n e = refl
 pure_reads c (word ∷ words) n e = absurd cc
@@ -200,8 +200,8 @@ pure_reads c (word ∷ words) n e = absurd cc
 pure_takes : (c : LineCall) → Takes (pure c) [] c
 pure_takes c = record { takes = pure_reads c }
 
-word_reads : {A : Type 0} (read : List ℕ → Option A) (f : A → Reader LineCall) (b : List ℕ) (a : A) (bs : List (List ℕ)) (c : LineCall) → read b ≡ Some a → Takes (f a) bs c →
-    (words : List Word) (n : ℕ) → spellings words ≡ b ∷ bs → ((word_of_kind read >>= f) >>= ended) (rest words n) ≡ Ok (c, rest [] n)
+word_reads : {A : Type 0} (read : List ℕ → Option A) (f : A → WordReader LineCall) (b : List ℕ) (a : A) (bs : List (List ℕ)) (c : LineCall) → read b ≡ Some a → Takes (f a) bs c →
+    (words : List LineWord) (n : ℕ) → spellings words ≡ b ∷ bs → ((word_of_kind read >>= f) >>= ended) (rest words n) ≡ Ok (c, rest [] n)
 unfolding word_of_kind
 word_reads read f b a bs c is takes [] n e = absurd cc
 word_reads read f b a bs c is takes (word ∷ words) n e =
@@ -209,24 +209,24 @@ word_reads read f b a bs c is takes (word ∷ words) n e =
     let after : spellings words ≡ bs = cc in
     ap (λ value. and_then (and_then (said value word (rest words n)) f) ended) (ap read here ∙ is) ∙ takes.takes words n after
 
-word_takes : {A : Type 0} (read : List ℕ → Option A) (f : A → Reader LineCall) (b : List ℕ) (a : A) (bs : List (List ℕ)) (c : LineCall) → read b ≡ Some a → Takes (f a) bs c →
+word_takes : {A : Type 0} (read : List ℕ → Option A) (f : A → WordReader LineCall) (b : List ℕ) (a : A) (bs : List (List ℕ)) (c : LineCall) → read b ≡ Some a → Takes (f a) bs c →
     Takes (word_of_kind read >>= f) (b ∷ bs) c
 word_takes read f b a bs c is takes = record { takes = word_reads read f b a bs c is takes }
 
-unsigned_takes : (f : ℕ → Reader LineCall) (a : ℕ) (bs : List (List ℕ)) (c : LineCall) → IsUnsigned a → Takes (f a) bs c → Takes (word_of_kind unsigned_of >>= f) (decimal a ∷ bs) c
+unsigned_takes : (f : ℕ → WordReader LineCall) (a : ℕ) (bs : List (List ℕ)) (c : LineCall) → IsUnsigned a → Takes (f a) bs c → Takes (word_of_kind unsigned_of >>= f) (decimal a ∷ bs) c
 unsigned_takes f a bs c good = word_takes unsigned_of f (decimal a) a bs c (unsigned_again a good)
 
-line_count_takes : (f : ℕ → Reader LineCall) (a : ℕ) (bs : List (List ℕ)) (c : LineCall) → IsCount a → Takes (f a) bs c → Takes (word_of_kind line_count_of >>= f) (decimal a ∷ bs) c
+line_count_takes : (f : ℕ → WordReader LineCall) (a : ℕ) (bs : List (List ℕ)) (c : LineCall) → IsCount a → Takes (f a) bs c → Takes (word_of_kind line_count_of >>= f) (decimal a ∷ bs) c
 line_count_takes f a bs c good = word_takes line_count_of f (decimal a) a bs c (line_count_again a good)
 
-number_takes : (f : ℤ → Reader LineCall) (a : ℤ) (bs : List (List ℕ)) (c : LineCall) → FitsSigned w64 a → Takes (f a) bs c → Takes (word_of_kind int_of >>= f) (signed_decimal a ∷ bs) c
+number_takes : (f : ℤ → WordReader LineCall) (a : ℤ) (bs : List (List ℕ)) (c : LineCall) → FitsSigned w64 a → Takes (f a) bs c → Takes (word_of_kind int_of >>= f) (signed_decimal a ∷ bs) c
 number_takes f a bs c good = word_takes int_of f (signed_decimal a) a bs c (int_of_spelling a good)
 
-name_takes : (f : List ℕ → Reader LineCall) (a : List ℕ) (bs : List (List ℕ)) (c : LineCall) → IsName a → Takes (f a) bs c → Takes (word_of_kind name_of >>= f) (a ∷ bs) c
+name_takes : (f : List ℕ → WordReader LineCall) (a : List ℕ) (bs : List (List ℕ)) (c : LineCall) → IsName a → Takes (f a) bs c → Takes (word_of_kind name_of >>= f) (a ∷ bs) c
 name_takes f a bs c good = word_takes name_of f a a bs c (name_again a good)
 
-flag_reads : (spelling : List ℕ) (f : Bool → Reader LineCall) (c : LineCall) → Takes (f true) [] c →
-    (words : List Word) (n : ℕ) → spellings words ≡ spelling ∷ [] → ((flag spelling >>= f) >>= ended) (rest words n) ≡ Ok (c, rest [] n)
+flag_reads : (spelling : List ℕ) (f : Bool → WordReader LineCall) (c : LineCall) → Takes (f true) [] c →
+    (words : List LineWord) (n : ℕ) → spellings words ≡ spelling ∷ [] → ((flag spelling >>= f) >>= ended) (rest words n) ≡ Ok (c, rest [] n)
 unfolding flag
 flag_reads spelling f c takes [] n e = absurd cc
 flag_reads spelling f c takes (word ∷ words) n e =
@@ -234,8 +234,8 @@ flag_reads spelling f c takes (word ∷ words) n e =
     let after : spellings words ≡ [] = cc in
     ap (λ is. and_then (and_then (cond is (Ok (true, rest words n)) (Err (wrong word))) f) ended) ((name_eq-Decides word.bytes spelling).1 here) ∙ takes.takes words n after
 
-no_flag_reads : (spelling : List ℕ) (f : Bool → Reader LineCall) (c : LineCall) → Takes (f false) [] c →
-    (words : List Word) (n : ℕ) → spellings words ≡ [] → ((flag spelling >>= f) >>= ended) (rest words n) ≡ Ok (c, rest [] n)
+no_flag_reads : (spelling : List ℕ) (f : Bool → WordReader LineCall) (c : LineCall) → Takes (f false) [] c →
+    (words : List LineWord) (n : ℕ) → spellings words ≡ [] → ((flag spelling >>= f) >>= ended) (rest words n) ≡ Ok (c, rest [] n)
 unfolding flag
 no_flag_reads spelling f c takes [] n e = takes.takes [] n refl
 no_flag_reads spelling f c takes (word ∷ words) n e = absurd cc
@@ -255,7 +255,7 @@ command_again command.Reclaim = refl
 command_again command.Versions = refl
 command_again command.Leave = refl
 
-command_takes : (k : Command) (bs : List (List ℕ)) (c : LineCall) → Takes (arguments k) bs c → (words : List Word) (n : ℕ) → spellings words ≡ command_word k ∷ bs →
+command_takes : (k : Command) (bs : List (List ℕ)) (c : LineCall) → Takes (arguments k) bs c → (words : List LineWord) (n : ℕ) → spellings words ≡ command_word k ∷ bs →
     command_line (rest words n) ≡ Ok (c, rest [] n)
 unfolding command_line word_of_kind
 command_takes k bs c takes [] n e = absurd cc
@@ -265,7 +265,7 @@ command_takes k bs c takes (word ∷ words) n e =
     ap (λ value. and_then (said value word (rest words n)) (λ k. arguments k >>= ended)) (ap command_of here ∙ command_again k) ∙ takes.takes words n after
 
 abbrev IsRead : LineCall → Type 0
-IsRead c = (words : List Word) (n : ℕ) → spellings words ≡ call_words c → command_line (rest words n) ≡ Ok (c, rest [] n)
+IsRead c = (words : List LineWord) (n : ℕ) → spellings words ≡ call_words c → command_line (rest words n) ≡ Ok (c, rest [] n)
 
 call_is_read : (c : LineCall) → IsSayable c → IsRead c
 unfolding arguments

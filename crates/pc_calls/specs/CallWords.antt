@@ -3,13 +3,14 @@ use Rattle.std.specs.Prelude.{◌≡◌, ℕ, ◌^◌, ◌<◌, ◌≤◌, true,
 use Rattle.std.specs.Int.{w64}
 use Rattle.std.specs.Fmt.{signed_decimal}
 use Rattle.pc_names.specs.Name.{is_name}
+use Rattle.pc_calls.specs.declared.limits.TheConstants.{MOST_LINES}
 use Rattle.pc_calls.specs.declared.call.Call.TheVariants.{Enter, Open, Show, Choose, Retract, Bound, Unbound, Rebase, Close, Publish, Reclaim, Versions, Leave}
 use Rattle.pc_calls.specs.declared.line_call.LineCall.{LineCall}
 use Rattle.pc_calls.specs.declared.line_call.LineCall.TheVariants.{Whole, PublishHead}
-use Rattle.pc_calls.specs.LineWords.{Word}
+use Rattle.pc_calls.specs.LineWords.{LineWord}
 
 -- words without their places
-abbrev pub spellings : List Word → List (List ℕ)
+abbrev pub spellings : List LineWord → List (List ℕ)
 spellings words = map (λ word. word.bytes) words
 
 -- a command and its arguments, with each number in its one spelling; no line says an enter, or a publish with its file
@@ -52,4 +53,4 @@ IsSayable (Whole (Publish base file)) = ⊥
 IsSayable (Whole (Reclaim version)) = IsUnsigned version
 IsSayable (Whole Versions) = Unit {0}
 IsSayable (Whole Leave) = Unit {0}
-IsSayable (PublishHead base lines) = IsUnsigned base × (1 ≤ lines) × (lines ≤ 8192)
+IsSayable (PublishHead base lines) = IsUnsigned base × (1 ≤ lines) × (lines ≤ MOST_LINES)

@@ -1,6 +1,6 @@
 -- The commands, the words that follow each, and the call that they say.
 use Rattle.std.specs.Prelude.{ℕ, ℤ, if◌then◌else◌, List, codes, Option, Some, None, Result, Ok, Err}
-use Rattle.pc_names.specs.Number.{int_of}
+use Rattle.pc_names.specs.Number.{int_of, unsigned_of}
 use Rattle.pc_names.specs.Spelling.{same_spelling}
 use Rattle.pc_calls.specs.declared.bad_column.BadColumn.{BadColumn}
 use Rattle.pc_calls.specs.declared.call.Call.TheVariants as call
@@ -8,7 +8,7 @@ use Rattle.pc_calls.specs.declared.command.Command.{Command}
 use Rattle.pc_calls.specs.declared.command.Command.TheVariants as command
 use Rattle.pc_calls.specs.declared.line_call.LineCall.{LineCall}
 use Rattle.pc_calls.specs.declared.line_call.LineCall.TheVariants.{Whole, PublishHead}
-use Rattle.pc_calls.specs.CommandReader.{Rest, rest_of, Reader, ◌>>=◌, ◌>>◌, pure, word_of_kind, end, flag, unsigned_of, line_count_of, name_of}
+use Rattle.pc_calls.specs.CommandReader.{Rest, rest_of, WordReader, ◌>>=◌, ◌>>◌, pure, word_of_kind, end, flag, line_count_of, name_of}
 
 -- the command that a word is
 unfoldable pub command_of : List ℕ → Option Command
@@ -26,20 +26,20 @@ command_of word =
     else (if same_spelling word (codes "versions") then Some command.Versions
     else (if same_spelling word (codes "leave") then Some command.Leave else None)))))))))))
 
-abbrev pub unsigned : Reader ℕ
+abbrev pub unsigned : WordReader ℕ
 unsigned = word_of_kind unsigned_of
 
-abbrev pub number : Reader ℤ
+abbrev pub number : WordReader ℤ
 number = word_of_kind int_of
 
-abbrev pub name : Reader (List ℕ)
+abbrev pub name : WordReader (List ℕ)
 name = word_of_kind name_of
 
-abbrev pub line_count : Reader ℕ
+abbrev pub line_count : WordReader ℕ
 line_count = word_of_kind line_count_of
 
 -- the words that follow a command, and what they say with it
-unfoldable pub arguments : Command → Reader LineCall
+unfoldable pub arguments : Command → WordReader LineCall
 arguments command.Open = pure (Whole call.Open)
 arguments command.Show = do
   session ← unsigned
@@ -81,7 +81,7 @@ arguments command.Versions = pure (Whole call.Versions)
 arguments command.Leave = pure (Whole call.Leave)
 
 -- all words: a command and its arguments, and no more
-unfoldable pub command_line : Reader LineCall
+unfoldable pub command_line : WordReader LineCall
 command_line = do
   command ← word_of_kind command_of
   said ← arguments command

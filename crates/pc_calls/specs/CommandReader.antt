@@ -1,14 +1,15 @@
 -- Reading the words of a line from left to right, up to the first wrong word.
-use Rattle.std.specs.Prelude.{ℕ, ℤ, pos, negsuc, ◌+◌, Bool, true, false, ◌&&◌, nat_le, if◌then◌else◌, List, [], ◌∷◌, length, Option, Some, None, option_and_then, Result, Ok, Err}
+use Rattle.std.specs.Prelude.{ℕ, ◌+◌, Bool, true, false, ◌&&◌, nat_le, if◌then◌else◌, List, [], ◌∷◌, length, Option, Some, None, option_and_then, Result, Ok, Err}
 use Rattle.pc_names.specs.Name.{is_name}
-use Rattle.pc_names.specs.Number.{int_of}
+use Rattle.pc_names.specs.Number.{unsigned_of}
 use Rattle.pc_names.specs.Spelling.{same_spelling}
 use Rattle.pc_calls.specs.declared.bad_column.BadColumn.{BadColumn}
-use Rattle.pc_calls.specs.LineWords.{Word, words_from}
+use Rattle.pc_calls.specs.LineWords.{LineWord, words_from}
+use Rattle.pc_calls.specs.declared.limits.TheConstants.{MOST_LINES}
 
 -- the words that are left to be read, and the length of their line
 pub record Rest : Type 0 where
-  pub words : List Word
+  pub words : List LineWord
   pub line_length : ℕ
 
 -- the words of a line from a byte on
@@ -16,7 +17,7 @@ abbrev pub rest_of : List ℕ → ℕ → Rest
 rest_of line from = record { words = words_from line from; line_length = length line }
 
 -- the column of a wrong word: the place of its first byte, counted from 1
-abbrev pub wrong : Word → BadColumn
+abbrev pub wrong : LineWord → BadColumn
 wrong word = record { column = word.place + 1 }
 
 -- the column where a word is missing: right after the line
@@ -24,66 +25,58 @@ abbrev pub missing : ℕ → BadColumn
 missing line_length = record { column = line_length + 1 }
 
 -- Gives a value and the words that are left after it, or the column of the first word that is wrong or missing.
-abbrev pub Reader : Type 0 → Type 0
-Reader A = Rest → Result (A × Rest) BadColumn
+abbrev pub WordReader : Type 0 → Type 0
+WordReader A = Rest → Result (A × Rest) BadColumn
 
-abbrev pub and_then : {A B : Type 0} → Result (A × Rest) BadColumn → (A → Reader B) → Result (B × Rest) BadColumn
+abbrev pub and_then : {A B : Type 0} → Result (A × Rest) BadColumn → (A → WordReader B) → Result (B × Rest) BadColumn
 and_then (Ok found) next = next found.0 found.1
 and_then (Err column) next = Err column
 
 infixl 10 ◌>>=◌
-abbrev pub ◌>>=◌ : {A B : Type 0} → Reader A → (A → Reader B) → Reader B
+abbrev pub ◌>>=◌ : {A B : Type 0} → WordReader A → (A → WordReader B) → WordReader B
 reader >>= next = λ rest. and_then (reader rest) next
 
 infixl 10 ◌>>◌
-abbrev pub ◌>>◌ : {A B : Type 0} → Reader A → Reader B → Reader B
+abbrev pub ◌>>◌ : {A B : Type 0} → WordReader A → WordReader B → WordReader B
 reader >> next = reader >>= (λ _. next)
 
-abbrev pub pure : {A : Type 0} → A → Reader A
+abbrev pub pure : {A : Type 0} → A → WordReader A
 pure value = λ rest. Ok (value, rest)
 
 -- what a word says, if it says something
-abbrev pub said : {A : Type 0} → Option A → Word → Rest → Result (A × Rest) BadColumn
+abbrev pub said : {A : Type 0} → Option A → LineWord → Rest → Result (A × Rest) BadColumn
 said (Some value) word rest = Ok (value, rest)
 said None word rest = Err (wrong word)
 
-abbrev pub first_of : {A : Type 0} → (List ℕ → Option A) → List Word → ℕ → Result (A × Rest) BadColumn
+abbrev pub first_of : {A : Type 0} → (List ℕ → Option A) → List LineWord → ℕ → Result (A × Rest) BadColumn
 first_of kind [] line_length = Err (missing line_length)
 first_of kind (word ∷ words) line_length = said (kind word.bytes) word (record { words = words; line_length = line_length })
 
 -- The next word has to be there and to be of a kind, which says what a word of it means.
-unfoldable pub word_of_kind : {A : Type 0} → (List ℕ → Option A) → Reader A
+unfoldable pub word_of_kind : {A : Type 0} → (List ℕ → Option A) → WordReader A
 word_of_kind kind rest = first_of kind rest.words rest.line_length
 
 -- no word may come next
-abbrev pub none_of : List Word → Rest → Result (Unit {0} × Rest) BadColumn
+abbrev pub none_of : List LineWord → Rest → Result (Unit {0} × Rest) BadColumn
 none_of [] rest = Ok (tt, rest)
 none_of (word ∷ words) rest = Err (wrong word)
 
-unfoldable pub end : Reader (Unit {0})
+unfoldable pub end : WordReader (Unit {0})
 end rest = none_of rest.words rest
 
 -- this word may come next, or none
-abbrev pub this_or_none : List ℕ → List Word → Rest → Result (Bool × Rest) BadColumn
+abbrev pub this_or_none : List ℕ → List LineWord → Rest → Result (Bool × Rest) BadColumn
 this_or_none spelling [] rest = Ok (false, rest)
 this_or_none spelling (word ∷ words) rest = if same_spelling word.bytes spelling then Ok (true, record rest { words = words }) else Err (wrong word)
 
-unfoldable pub flag : List ℕ → Reader Bool
+unfoldable pub flag : List ℕ → WordReader Bool
 flag spelling rest = this_or_none spelling rest.words rest
 
 -- ---- kinds of words
 
-abbrev pub not_negative : ℤ → Option ℕ
-not_negative (pos n) = Some n
-not_negative (negsuc n) = None
-
--- a number of 64 signed bits in canonical decimal that isn't negative
-abbrev pub unsigned_of : List ℕ → Option ℕ
-unsigned_of bytes = option_and_then not_negative (int_of bytes)
-
--- such a number from 1 to 8,192
+-- a number of lines, from 1 on
 abbrev pub line_count_of : List ℕ → Option ℕ
-line_count_of bytes = option_and_then (λ n. if nat_le 1 n && nat_le n 8192 then Some n else None) (unsigned_of bytes)
+line_count_of bytes = option_and_then (λ n. if nat_le 1 n && nat_le n MOST_LINES then Some n else None) (unsigned_of bytes)
 
 -- a name, which is its own spelling
 abbrev pub name_of : List ℕ → Option (List ℕ)

@@ -5,13 +5,13 @@ use Rattle.pc_calls.specs.declared.call.Call.TheVariants.{Open, Show, Choose, Re
 use Rattle.pc_calls.specs.declared.head.Head.{Head}
 use Rattle.pc_calls.specs.declared.reply.Reply.{Reply}
 use Rattle.pc_calls.specs.declared.reply.Shown.{Shown}
-use Rattle.pc_calls.specs.Answer.{Answer}
+use Rattle.pc_calls.specs.Decision.{Decision}
 use Rattle.pc_calls.specs.Selection.{shown}
 use Rattle.pc_calls.specs.State.{State, current, file_of, opened_by, session_of, version_in}
-use Rattle.pc_calls.specs.Step.{given, outcome_of, state_of}
+use Rattle.pc_calls.specs.Step.{step, outcome_of, state_of}
 
 -- the session that a call asks for, or that it opened; else 0
-abbrev pub session_told : ℕ → Call → Answer State → ℕ
+abbrev pub session_told : ℕ → Call → Decision State → ℕ
 session_told caller Open (Ok later) = opened_by later caller
 session_told caller Open (Err refusal) = 0
 session_told caller (Show session) result = session
@@ -24,7 +24,7 @@ session_told caller (Close session) result = session
 session_told caller call result = 0
 
 -- The version of that session after the call, or that a close let go; the version that a publish made; else 0.
-abbrev pub version_told : ℕ → Call → State → Answer State → ℕ
+abbrev pub version_told : ℕ → Call → State → Decision State → ℕ
 version_told caller Open before (Ok later) = version_in later caller (opened_by later caller)
 version_told caller Open before (Err refusal) = 0
 version_told caller (Show session) before result = version_in (state_of before result) caller session
@@ -39,13 +39,13 @@ version_told caller (Publish base file) before (Err refusal) = 0
 version_told caller call before result = 0
 
 -- the head of an answer
-abbrev pub head_by : ℕ → Call → State → Answer State → Head
+abbrev pub head_by : ℕ → Call → State → Decision State → Head
 head_by caller call before result =
     record { session = session_told caller call result; version = version_told caller call before result; outcome = outcome_of result; live = []; dropped = [] }
 
 -- the head of the answer to a caller's call
 abbrev pub head : ℕ → Call → State → Head
-head caller call state = head_by caller call state (given caller call state)
+head caller call state = head_by caller call state (step caller call state)
 
 -- the call shows the session's listing where it is done
 abbrev pub is_shown : Call → Bool
@@ -63,10 +63,10 @@ abbrev pub shown_of : State → ℕ → ℕ → Option Shown
 shown_of state caller number = option_and_then (λ s. option_map (λ f. record { file = f; listing = shown f s.selection }) (file_of state s.version)) (session_of state caller number)
 
 -- what is shown after a call that is done
-abbrev pub shown_by : ℕ → Call → Answer State → Option Shown
+abbrev pub shown_by : ℕ → Call → Decision State → Option Shown
 shown_by caller call (Ok later) = if is_shown call then shown_of later caller (session_told caller call (Ok later)) else None
 shown_by caller call (Err refusal) = None
 
 -- the reply to a caller's call
 abbrev pub reply : ℕ → Call → State → Reply
-reply caller call state = record { head = head caller call state; shown = shown_by caller call (given caller call state) }
+reply caller call state = record { head = head caller call state; shown = shown_by caller call (step caller call state) }

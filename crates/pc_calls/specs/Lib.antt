@@ -1,4 +1,4 @@
-pub mod Answer
+pub mod Decision
 pub mod CallWords
 pub mod CommandLine
 pub mod CommandReader

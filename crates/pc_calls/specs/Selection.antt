@@ -10,7 +10,7 @@ use Rattle.pc_file.specs.Limits.{Contents}
 use Rattle.pc_file.specs.Positions.{variable_named, value_named}
 use Rattle.pc_file.specs.Costs.{file_listing}
 use Rattle.pc_calls.specs.declared.outcome.Outcome.TheVariants.{NoVariable, NoValue, NotListed, NotChosen}
-use Rattle.pc_calls.specs.Answer.{Answer, ◌>>=◌, ◌>>◌, required, refused_where}
+use Rattle.pc_calls.specs.Decision.{Decision, ◌>>=◌, ◌>>◌, required, refused_where}
 
 -- the choices in the order in which they were made, and the bounds
 pub record Selection : Type 0 where
@@ -45,11 +45,11 @@ abbrev pub without_choice : Selection → ℕ → Selection
 without_choice selection variable = record { choices = without selection.choices variable; bounds = selection.bounds }
 
 -- show: nothing changes
-abbrev pub show : Contents → Selection → Answer Selection
+abbrev pub show : Contents → Selection → Decision Selection
 show file selection = Ok selection
 
 -- choose: the choice goes to the end of the choices
-unfoldable pub choose : List ℕ → List ℕ → Contents → Selection → Answer Selection
+unfoldable pub choose : List ℕ → List ℕ → Contents → Selection → Decision Selection
 choose variable_name value_name file selection = do
   variable ← required (variable_named file variable_name) NoVariable
   value ← required (value_named file variable value_name) NoValue
@@ -57,7 +57,7 @@ choose variable_name value_name file selection = do
   Ok (with_choice selection variable value)
 
 -- retract: the choice of that variable goes
-unfoldable pub retract : List ℕ → Contents → Selection → Answer Selection
+unfoldable pub retract : List ℕ → Contents → Selection → Decision Selection
 retract variable_name file selection = do
   variable ← required (variable_named file variable_name) NoVariable
   refused_where (not (is_chosen selection.choices variable)) NotChosen

@@ -3,19 +3,13 @@ use Rattle.std.specs.Prelude.{ℕ, zero, suc, ◌==◌, ◌+◌, nat_le, Bool, t
 use Rattle.pc_file.specs.Limits.{Contents}
 use Rattle.pc_file.specs.Products.{products}
 use Rattle.pc_calls.specs.declared.call.Call.{Call}
-use Rattle.pc_calls.specs.declared.call.Call.TheVariants.{Enter, Open, Show, Choose, Retract, Close, Publish, Leave}
+use Rattle.pc_calls.specs.declared.call.Call.TheVariants.{Enter, Open, Show, Choose, Retract, Bound, Unbound, Rebase, Close, Publish, Reclaim, Versions, Leave}
+use Rattle.pc_calls.specs.declared.limits.TheConstants.{MOST_LIVE, MOST_SESSIONS}
 use Rattle.pc_calls.specs.declared.outcome.Outcome.{Outcome}
 use Rattle.pc_calls.specs.declared.outcome.Outcome.TheVariants.{Done, NoSession, NoVersion, SessionsFull, NoProduct, Stale, ShelvesFull}
-use Rattle.pc_calls.specs.Answer.{Answer, ◌>>=◌, ◌>>◌, required, refused_where}
+use Rattle.pc_calls.specs.Decision.{Decision, ◌>>=◌, ◌>>◌, required, refused_where}
 use Rattle.pc_calls.specs.Selection.{Selection, free, show, choose, retract}
 use Rattle.pc_calls.specs.State.{Caller, OpenSession, State, current, live_versions, file_of, opened_by, is_owned, is_session, session_of, open_sessions}
-
--- a caller may have so many open sessions, and so many versions may be live
-abbrev pub most_sessions : ℕ
-most_sessions = 64
-
-abbrev pub most_live : ℕ
-most_live = 32
 
 -- the item of a number, counted from 1, changed
 abbrev pub change_numbered : {A : Type 0} → (A → A) → List A → ℕ → List A
@@ -41,14 +35,14 @@ abbrev pub asking : Selection → OpenSession → OpenSession
 asking selection session = record { owner = session.owner; number = session.number; version = session.version; selection = selection }
 
 -- enter: the next caller number
-abbrev pub enter : State → Answer State
+abbrev pub enter : State → Decision State
 enter state = Ok (record { versions = state.versions; callers = state.callers ++ newcomer ∷ []; sessions = state.sessions })
 
 -- open: the caller's next session, at the current version, without choices and bounds
-abbrev pub open_session : ℕ → State → Answer State
+abbrev pub open_session : ℕ → State → Decision State
 open_session caller state = do
   refused_where (current state == 0) NoVersion
-  refused_where (nat_le most_sessions (open_sessions state caller)) SessionsFull
+  refused_where (nat_le MOST_SESSIONS (open_sessions state caller)) SessionsFull
   Ok (record {
     versions = state.versions;
     callers = change_numbered with_opened state.callers caller;
@@ -66,7 +60,7 @@ with_selection caller number selection state =
     record { versions = state.versions; callers = state.callers; sessions = change_first (is_session caller number) (asking selection) state.sessions }
 
 -- a call that is a session's own: what it asks after the call, over the file of its version
-abbrev pub in_session : ℕ → ℕ → (Contents → Selection → Answer Selection) → State → Answer State
+abbrev pub in_session : ℕ → ℕ → (Contents → Selection → Decision Selection) → State → Decision State
 in_session caller number ask state = do
   session ← required (session_of state caller number) NoSession
   file ← required (file_of state session.version) NoSession
@@ -79,44 +73,53 @@ drop_first is [] = []
 drop_first is (session ∷ sessions) = if is session then sessions else session ∷ drop_first is sessions
 
 -- close: the session ends
-abbrev pub close : ℕ → ℕ → State → Answer State
+abbrev pub close : ℕ → ℕ → State → Decision State
 close caller number state = do
   session ← required (session_of state caller number) NoSession
   Ok (record { versions = state.versions; callers = state.callers; sessions = drop_first (is_session caller number) state.sessions })
 
 -- publish: the file is the next version, live and current
-abbrev pub publish : ℕ → Contents → State → Answer State
+abbrev pub publish : ℕ → Contents → State → Decision State
 publish base file state = do
   refused_where (length (products file) == 0) NoProduct
   refused_where (not (base == current state)) (Stale (current state))
-  refused_where (nat_le most_live (live_versions state)) ShelvesFull
+  refused_where (nat_le MOST_LIVE (live_versions state)) ShelvesFull
   Ok (record { versions = state.versions ++ record { file = file; live = true } ∷ []; callers = state.callers; sessions = state.sessions })
 
 -- leave: the caller's sessions end, and it makes no more calls
-abbrev pub leave : ℕ → State → Answer State
+abbrev pub leave : ℕ → State → Decision State
 leave caller state =
     Ok (record { versions = state.versions; callers = change_numbered gone state.callers caller; sessions = filter (λ s. not (is_owned caller s)) state.sessions })
 
--- What a caller's call gives. Calls that nobody can make yet change nothing; each gets its row with what answers it.
-abbrev pub given : ℕ → Call → State → Answer State
-given caller Enter state = enter state
-given caller Open state = open_session caller state
-given caller (Show session) state = in_session caller session show state
-given caller (Choose session variable value) state = in_session caller session (choose variable value) state
-given caller (Retract session variable) state = in_session caller session (retract variable) state
-given caller (Close session) state = close caller session state
-given caller (Publish base file) state = publish base file state
-given caller Leave state = leave caller state
-given caller call state = Ok state
+-- The calls whose rows stand below. Of the others nothing is said yet: no legal history has one, and no law speaks of them.
+abbrev pub has_row : Call → Bool
+has_row (Bound session cost most) = false
+has_row (Unbound session cost) = false
+has_row (Rebase session version dropping) = false
+has_row (Reclaim version) = false
+has_row Versions = false
+has_row call = true
 
-abbrev pub outcome_of : Answer State → Outcome
+-- what a caller's call gives, where it has its row
+abbrev pub step : ℕ → Call → State → Decision State
+step caller Enter state = enter state
+step caller Open state = open_session caller state
+step caller (Show session) state = in_session caller session show state
+step caller (Choose session variable value) state = in_session caller session (choose variable value) state
+step caller (Retract session variable) state = in_session caller session (retract variable) state
+step caller (Close session) state = close caller session state
+step caller (Publish base file) state = publish base file state
+step caller Leave state = leave caller state
+step caller call state = Ok state
+
+abbrev pub outcome_of : Decision State → Outcome
 outcome_of (Ok state) = Done
 outcome_of (Err refusal) = refusal
 
-abbrev pub state_of : State → Answer State → State
+abbrev pub state_of : State → Decision State → State
 state_of before (Ok state) = state
 state_of before (Err refusal) = before
 
 -- the state after a caller's call
 abbrev pub after : ℕ → Call → State → State
-after caller call state = state_of state (given caller call state)
+after caller call state = state_of state (step caller call state)

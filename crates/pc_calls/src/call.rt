@@ -1,6 +1,6 @@
 //! The calls.
 
-use crate::shared_file::SharedFile;
+use pc_file::SharedFile;
 use pc_names::Name;
 
 /// What a caller asks for. Sessions are numbered by their caller from 1 on, and versions from 1 on.

@@ -1,25 +1,16 @@
 //! The kinds of words.
 
 ghost use Rattle.std.specs.Prelude.{◌≡◌};
-ghost use Rattle.pc_calls.specs.CommandReader.{unsigned_of, line_count_of, name_of};
+ghost use Rattle.pc_calls.specs.CommandReader.{line_count_of, name_of};
 
-use pc_names::{Name, read_int};
+use crate::limits::MOST_LINES;
+use pc_names::{Name, read_unsigned};
 
-/// A number that isn't negative.
-pub fn unsigned(word: &[u8]) -> Option<u64>
-    ensures { result ≡ unsigned_of word.now }
-{
-    match read_int(word) {
-        Some(number) if number >= 0 => Some(number as u64),
-        _ => None,
-    }
-}
-
-/// A number of lines, from 1 to 8,192.
+/// A number of lines, from 1 to the most that may be announced.
 pub fn line_count(word: &[u8]) -> Option<u64>
     ensures { result ≡ line_count_of word.now }
 {
-    unsigned(word).filter(|count| (1..=8192).contains(count))
+    read_unsigned(word).filter(|count| (1..=MOST_LINES).contains(count))
 }
 
 /// A name.

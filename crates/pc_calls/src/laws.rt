@@ -7,18 +7,18 @@ ghost use Rattle.pc_calls.specs.declared.call.Call.TheVariants.{Open};
 ghost use Rattle.pc_calls.specs.History.{is_present};
 ghost use Rattle.pc_calls.specs.Kept.{IsKept};
 ghost use Rattle.pc_calls.specs.State.{State, file_of, opened_by};
-ghost use Rattle.pc_calls.specs.Step.{after, given};
+ghost use Rattle.pc_calls.specs.Step.{after, step, has_row};
 
 use crate::call::Call;
 use crate::entry::Entry;
 use crate::reply::Reply;
-use crate::shared_file::SharedFile;
 use pc_base::crosses_threads;
+use pc_file::SharedFile;
 
 /// The file of a version never changes, whatever is called.
 #[tactic(auto, using(crate::proofs::StepLaws::keeps_file))]
 pub fn versions_keep_their_files()
-    ensures { (caller : ℕ) (call : Call) (state : State) (version : ℕ) (file : Contents)
+    ensures { (caller : ℕ) (call : Call) (state : State) (version : ℕ) (file : Contents) → has_row call ≡ true
         → file_of state version ≡ Some file → file_of (after caller call state) version ≡ Some file }
 {}
 
@@ -26,15 +26,15 @@ pub fn versions_keep_their_files()
 /// it, at the current version.
 #[tactic(auto, using(crate::proofs::StepLaws::keeps_sessions))]
 pub fn sessions_keep_their_versions()
-    ensures { (caller : ℕ) (call : Call) (state : State) → All (IsKept caller state) (after caller call state).sessions }
+    ensures { (caller : ℕ) (call : Call) (state : State) → has_row call ≡ true → All (IsKept caller state) (after caller call state).sessions }
 {}
 
 /// No number is given to two sessions of a caller: a new session has the number after those that were given, and how
 /// many were given never falls.
 #[tactic(auto, using(crate::proofs::StepLaws::opened_grows))]
 pub fn numbers_are_given_once()
-    ensures grows { (caller : ℕ) (call : Call) (state : State) (owner : ℕ) → opened_by state owner ≤ opened_by (after caller call state) owner }
-    ensures counts { (caller : ℕ) (state later : State) → is_present state caller ≡ true → given caller Open state ≡ Ok later
+    ensures grows { (caller : ℕ) (call : Call) (state : State) (owner : ℕ) → has_row call ≡ true → opened_by state owner ≤ opened_by (after caller call state) owner }
+    ensures counts { (caller : ℕ) (state later : State) → is_present state caller ≡ true → step caller Open state ≡ Ok later
         → opened_by later caller ≡ opened_by state caller + 1 }
 {}
 

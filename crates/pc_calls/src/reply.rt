@@ -1,8 +1,8 @@
 //! The reply to a call.
 
 use crate::head::Head;
-use crate::shared_file::SharedFile;
 use pc_diagram::Listing;
+use pc_file::SharedFile;
 
 /// A listing, with the file whose variables and values it names.
 #[derive(Debug, Drop)]

@@ -8,10 +8,10 @@ ghost use Rattle.pc_calls.specs.CommandLine as line;
 
 use crate::bad_column::BadColumn;
 use crate::command::Command;
-use crate::kinds::{line_count, name, unsigned};
+use crate::kinds::{line_count, name};
 use crate::line_words::first_word;
 use crate::placed_word::PlacedWord;
-use pc_names::{Name, read_int};
+use pc_names::{Name, read_int, read_unsigned};
 use std::marker::Model;
 
 /// Reads words from left to right. Contracts see it as the words that are left.
@@ -77,7 +77,7 @@ impl<'a> WordsLeft<'a> {
         ensures { Reads (line.unsigned self.old) result self.new }
     {
         let word = self.word()?;
-        unsigned(word.bytes).ok_or(word.wrong())
+        read_unsigned(word.bytes).ok_or(word.wrong())
     }
 
     /// Reads a number.

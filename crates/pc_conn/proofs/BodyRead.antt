@@ -20,7 +20,7 @@ use Rattle.pc_text.specs.Given.{contents_given}
 use Rattle.pc_conn.specs.declared.body.Body.{Body}
 use Rattle.pc_conn.specs.declared.body.Body.TheVariants.{File, Fault, NotBuilt, Cut}
 use Rattle.pc_conn.specs.BodyText.{body_of, body_by, sound_body}
-use Rattle.pc_conn.specs.Reading.{IsUnread, GivesBody, ReadsBody}
+use Rattle.pc_conn.specs.Reading.{IsUnread, IsHalted, GivesBody, ReadsBody}
 
 -- so far so many lines were taken, and with a line feed each they are the text
 pub record BodySoFar (count n : ℕ) (text : List ℕ) (first : Cutter) (rest_then : Option (List ℕ)) (l : Cutter) (rest : Option (List ℕ)) (faults_then faults : ℕ) (aside_then aside : Aside) : Type 0 where
@@ -36,7 +36,7 @@ pub record BodySoFar (count n : ℕ) (text : List ℕ) (first : Cutter) (rest_th
   pub within : first.given ≤ first.total_limit → l.given ≤ l.total_limit
   pub stays_ended : IsTrue first.ended → IsTrue l.ended
   pub calm : IsTrue first.ended → l.given ≡ first.given
-  pub counted : faults_then ≤ faults
+  pub faultless : faults ≡ faults_then
   pub same_aside : aside ≡ aside_then
 
 pub body_begins : (count : ℕ) (l : Cutter) (rest : Option (List ℕ)) (faults : ℕ) (aside : Aside) → (IsTrue l.ended → IsAtEnd rest) → BodySoFar count 0 [] l rest l rest faults faults aside aside
@@ -53,7 +53,7 @@ body_begins count l rest faults aside at_end = record {
   within = λ h. h;
   stays_ended = λ h. h;
   calm = λ h. refl;
-  counted = omega arith;
+  faultless = refl;
   same_aside = refl;
 }
 
@@ -75,7 +75,7 @@ pub body_goes_on : (count n : ℕ) (text line : List ℕ) (first : Cutter) (rest
     → (IsTrue m.ended → m.kept ≡ [])
     → (IsTrue m.ended → IsAtEnd mid)
     → m.fault ≡ None
-    → faults ≤ counted → kept ≡ aside
+    → counted ≡ faults → kept ≡ aside
     → BodySoFar count (n + 1) ((text ++ line) ++ 10 ∷ []) first rest_then m mid faults_then counted aside_then kept
 body_goes_on count n text line first rest_then l rest m mid faults_then faults counted aside_then aside kept before room going read given fits rises within limits last at_end told count_ same = record {
   lines = before.lines ++ line ∷ [];
@@ -90,7 +90,7 @@ body_goes_on count n text line first rest_then l rest m mid faults_then faults c
   within = λ h. within;
   stays_ended = λ h. absurd (both_ways l.ended going (before.stays_ended h));
   calm = λ h. absurd (both_ways l.ended going (before.stays_ended h));
-  counted = omega (arith, count_, before.counted);
+  faultless = count_ ∙ before.faultless;
   same_aside = same ∙ before.same_aside;
 }
 
@@ -173,3 +173,14 @@ body_stopped count n text first rest_then l rest m mid faults_then faults aside_
   where
     open_then : first.ended ≡ false
     open_then = false_from_ne_true first.ended (λ h. absurd (both_ways l.ended going (so_far.stays_ended h)))
+
+-- so many lines were taken, and no memory is left
+pub body_halted : (count n : ℕ) (text : List ℕ) (first : Cutter) (rest_then : Option (List ℕ)) (l : Cutter) (rest : Option (List ℕ)) (faults_then faults : ℕ) (aside_then aside : Aside)
+    → BodySoFar count n text first rest_then l rest faults_then faults aside_then aside
+    → IsHalted count (record { cutter = first; rest = rest_then }) (record { cutter = l; rest = rest })
+body_halted count n text first rest_then l rest faults_then faults aside_then aside so_far = record {
+  taken = so_far.lines;
+  bytes = so_far.bytes;
+  took = so_far.took;
+  few = omega (arith, so_far.size, so_far.below);
+}

@@ -1,5 +1,6 @@
 -- What the text of a publish gives.
 use Rattle.std.specs.Prelude.{ℕ, ◌≤◌, ⊤, Bool, if◌then◌else◌, List, Option, Some, None, unwrap_or}
+use Rattle.pc_file.specs.declared.sizes.TheConstants.{MOST_WORDS}
 use Rattle.pc_file.specs.Limits.{Contents}
 use Rattle.pc_file.specs.Products.{words_of}
 use Rattle.pc_rules.specs.declared.kind.Kind.{Kind}
@@ -23,5 +24,5 @@ body_of text = body_by (first_fault text) (sound_body (is_crowded (given_by text
 
 -- a file has few enough words for the plain list
 abbrev pub HasFewWords : Body → Type 0
-HasFewWords (File file) = words_of file ≤ 65536
+HasFewWords (File file) = words_of file ≤ MOST_WORDS
 HasFewWords body = ⊤

@@ -1,6 +1,6 @@
 //! What follows a publish.
 
-use pc_calls::SharedFile;
+use pc_file::SharedFile;
 use pc_text::Kind;
 
 /// What the lines after the head of a publish give.

@@ -8,8 +8,7 @@ ghost use Rattle.pc_text.specs.Given.{contents_given};
 
 use crate::body::Body;
 use pc_base::NoMemory;
-use pc_calls::SharedFile;
-use pc_file::{File, has_few_words};
+use pc_file::{File, SharedFile, has_few_words};
 use pc_text::{TextFault, crowded_line, read_file};
 use std::alloc::Global;
 
@@ -36,8 +35,9 @@ fn sound_body(alloc: Global, file: File, text: &[u8]) -> Result<Body, NoMemory>
         return Ok(Body::File(SharedFile::new(alloc, file)?));
     }
     match crowded_line(alloc, text) {
-        Ok(Some(line)) => Ok(Body::NotBuilt { line }),
-        Ok(None) => unreachable!(),
+        Ok(line) => Ok(Body::NotBuilt {
+            line: line.unwrap_or(0),
+        }),
         Err(_) => Err(NoMemory),
     }
 }

@@ -9,6 +9,7 @@ mod body_fault;
 mod body_text;
 mod hearing;
 mod item;
+pub mod laws;
 mod reading;
 
 pub use answers::{push_bad, push_fault, push_not_built};
@@ -17,6 +18,3 @@ pub use body_fault::BodyFault;
 pub use hearing::hear;
 pub use item::{Announced, Heard, Item};
 pub use reading::read_body;
-
-#[cfg(test)]
-mod tests;

@@ -1,13 +1,13 @@
 //! Reading the text that follows a publish.
 
-ghost use Rattle.std.specs.Prelude.{◌≡◌, ◌≤◌, ◌<◌, false, [], None, IsTrue, IfOk, IfSome, OnOk, Ok, Err};
+ghost use Rattle.std.specs.Prelude.{◌≡◌, ◌≢◌, ◌≤◌, ◌<◌, false, [], None, IsTrue, IfOk, IfSome, OnOk, Ok, Err};
 ghost use Rattle.std.specs.Io.KnownBytes.{IsAtEnd};
 ghost use Rattle.pc_base.specs.Rose.{Rose};
 ghost use Rattle.pc_io.specs.declared.line_fault.LineFault.TheVariants.{ReadFault};
 ghost use Rattle.pc_conn.specs.declared.body.Body.TheVariants.{Cut};
 ghost use Rattle.pc_conn.specs.declared.body_fault.BodyFault.TheVariants.{Line};
 ghost use Rattle.pc_conn.specs.BodyText.{HasFewWords};
-ghost use Rattle.pc_conn.specs.Reading.{ReadsBody};
+ghost use Rattle.pc_conn.specs.Reading.{ReadsBody, fault_kept};
 
 use crate::body::Body;
 use crate::body_fault::BodyFault;
@@ -34,7 +34,8 @@ pub fn read_body<S: Source>(
     ensures at_end { IsTrue lines.new.ended → IsAtEnd (S.rest source.new) }
     ensures none_kept { (IsTrue lines.old.ended → lines.old.kept ≡ [])
         → OnOk result (IsTrue lines.new.ended → lines.new.kept ≡ []) }
-    ensures going { lines.old.fault ≡ None → OnOk result (lines.new.fault ≡ None) }
+    // Its fault, but for want of memory, is told again by each later call.
+    ensures told { lines.old.fault ≡ None → lines.new.fault ≡ fault_kept result }
     // A fault that was told before is told again, unless there is no line to ask for.
     ensures again { IfSome lines.old.fault (λ fault. 0 < count → lines.old.ended ≡ false
         → (result ≡ Err (Line fault)) × (lines.new ≡ lines.old) × (source.new ≡ source.old)) }
@@ -42,6 +43,7 @@ pub fn read_body<S: Source>(
     // Where the input has ended nothing is taken.
     ensures stays_ended { IsTrue lines.old.ended → IsTrue lines.new.ended }
     ensures calm { IsTrue lines.old.ended → lines.new.given ≡ lines.old.given }
+    ensures faultless { result ≢ Err (Line ReadFault) → S.read_faults source.new ≡ S.read_faults source.old }
     ensures counted { S.read_faults source.old ≤ S.read_faults source.new }
     ensures aside { S.read_aside source.new ≡ S.read_aside source.old }
 {

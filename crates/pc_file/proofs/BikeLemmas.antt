@@ -23,7 +23,7 @@ module _ (A : Type 0) (step : Rule-F A → A) where
   at_is : (variable value : ℕ) → fold-Rule A step (Is variable value) ≡ step (Rule-F.Is variable value)
   at_is variable value = ap (fold-Rule A step) (sym (rolls-Is variable value)) ∙ fold-roll-Rule A step (Rule-F.Is variable value)
 
-  at_first : fold-Rule A step (Implies (Is 0 2) (Is 1 1)) ≡ step (Rule-F.Implies (step (Rule-F.Is 0 2)) (step (Rule-F.Is 1 1)))
+  pub at_first : fold-Rule A step (Implies (Is 0 2) (Is 1 1)) ≡ step (Rule-F.Implies (step (Rule-F.Is 0 2)) (step (Rule-F.Is 1 1)))
   at_first =
       ap (fold-Rule A step) (sym (rolls-Implies (Is 0 2) (Is 1 1))) ∙ fold-roll-Rule A step (Rule-F.Implies (Is 0 2) (Is 1 1))
       ∙ ap (λ premise. step (Rule-F.Implies premise (fold-Rule A step (Is 1 1)))) (at_is 0 2) ∙ ap (λ consequence. step (Rule-F.Implies (step (Rule-F.Is 0 2)) consequence)) (at_is 1 1)
@@ -33,7 +33,7 @@ module _ (A : Type 0) (step : Rule-F A → A) where
       ap (fold-Rule A step) (sym (rolls-And (Is 0 0 ∷ Is 2 1 ∷ []))) ∙ fold-roll-Rule A step (Rule-F.And (Is 0 0 ∷ Is 2 1 ∷ []))
       ∙ ap (λ frame. step (Rule-F.And (frame ∷ fold-Rule A step (Is 2 1) ∷ []))) (at_is 0 0) ∙ ap (λ light. step (Rule-F.And (step (Rule-F.Is 0 0) ∷ light ∷ []))) (at_is 2 1)
 
-  at_second : fold-Rule A step (Not (And (Is 0 0 ∷ Is 2 1 ∷ []))) ≡ step (Rule-F.Not (step (Rule-F.And (step (Rule-F.Is 0 0) ∷ step (Rule-F.Is 2 1) ∷ []))))
+  pub at_second : fold-Rule A step (Not (And (Is 0 0 ∷ Is 2 1 ∷ []))) ≡ step (Rule-F.Not (step (Rule-F.And (step (Rule-F.Is 0 0) ∷ step (Rule-F.Is 2 1) ∷ []))))
   at_second =
       ap (fold-Rule A step) (sym (rolls-Not (And (Is 0 0 ∷ Is 2 1 ∷ [])))) ∙ fold-roll-Rule A step (Rule-F.Not (And (Is 0 0 ∷ Is 2 1 ∷ [])))
       ∙ ap (λ both. step (Rule-F.Not both)) at_both

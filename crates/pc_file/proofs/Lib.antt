@@ -5,6 +5,7 @@ pub mod LineSizeLemmas
 pub mod ProductLemmas
 pub mod CostLemmas
 pub mod ZipLemmas
+pub mod GrownLemmas
 pub mod PositionLemmas
 pub mod BikeLemmas
 pub mod WordLemmas

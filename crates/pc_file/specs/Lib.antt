@@ -12,5 +12,7 @@ pub mod WordOrder
 pub mod Products
 pub mod Parts
 pub mod Costs
+pub mod Full
+pub mod Grown
 pub mod ListingText
 pub mod Bike

@@ -4,6 +4,8 @@ use Rattle.std.specs.List.{list_all, list_any, zip}
 use Rattle.std.specs.Ordering.{int_eq}
 use Rattle.pc_names.specs.Spelling.{same_spelling}
 use Rattle.pc_base.specs.Distinct.{all_differ}
+use Rattle.pc_diagram.specs.declared.limits.TheConstants.{MOST_VALUES, MOST_VARIABLES}
+use Rattle.pc_file.specs.declared.sizes.TheConstants.{MOST_COST, MOST_COSTS, MOST_MEMBERS, MOST_OPEN, MOST_RULES}
 use Rattle.pc_file.specs.declared.variable.Value.{Value}
 use Rattle.pc_file.specs.declared.variable.Variable.{Variable}
 use Rattle.pc_file.specs.declared.rule.Rule.{Rule}
@@ -21,17 +23,17 @@ reserved_words = codes "and" ∷ codes "or" ∷ codes "not" ∷ codes "in" ∷ c
 abbrev pub is_reserved : List ℕ → Bool
 is_reserved name = list_any (same_spelling name) reserved_words
 
--- a cost of a value is at most 1,000,000,000 away from 0
+-- a cost of a value is at most so far away from 0
 abbrev pub is_cost : ℤ → Bool
-is_cost cost = int_le (neg_ℤ (pos 1000000000)) cost && int_le cost (pos 1000000000)
+is_cost cost = int_le (neg_ℤ MOST_COST) cost && int_le cost MOST_COST
 
 -- the costs of a value in a file of so many costs
 abbrev pub is_value : ℕ → Value → Bool
 is_value costs value = is_cost value.first && is_cost value.second && (costs == 2 || int_eq value.second (pos 0))
 
--- a variable has 1 to 64 values
+-- a variable has at least one value, and not too many
 abbrev pub is_sized : Variable → Bool
-is_sized variable = nat_le 1 (length variable.values) && nat_le (length variable.values) 64
+is_sized variable = nat_le 1 (length variable.values) && nat_le (length variable.values) MOST_VALUES
 
 -- the name and the values of a variable in a file of so many costs
 abbrev pub is_variable : ℕ → Variable → Bool
@@ -72,16 +74,16 @@ is_spelled_step variables (And rules) = nat_le 2 (length rules) && list_all (λ 
 is_spelled_step variables (Or rules) = nat_le 2 (length rules) && list_all (λ spelled. spelled) rules
 is_spelled_step variables (Implies rule consequence) = rule && consequence
 is_spelled_step variables (Same variable other) = has_variable variables variable && has_variable variables other
-is_spelled_step variables (AtMost most rules) = nat_le most 64 && nat_le 1 (length rules) && nat_le (length rules) 64 && list_all (λ spelled. spelled) rules
+is_spelled_step variables (AtMost most rules) = nat_le most MOST_MEMBERS && nat_le 1 (length rules) && nat_le (length rules) MOST_MEMBERS && list_all (λ spelled. spelled) rules
 is_spelled_step variables (Table these rows) =
     nat_le 1 (length these) && list_all (has_variable variables) these && all_differ ◌==◌ these && nat_le 1 (length rows) && list_all (is_row variables these) rows
 
 abbrev pub is_spelled : List Variable → Rule → Bool
 is_spelled variables = fold-Rule Bool (is_spelled_step variables)
 
--- no more than 64 parentheses are open at once in its printed form
+-- no more parentheses are open at once in its printed form than may be
 abbrev pub is_shallow : Rule → Bool
-is_shallow rule = nat_le (nesting rule).open_at_most 64
+is_shallow rule = nat_le (nesting rule).open_at_most MOST_OPEN
 
 abbrev pub is_rule : List Variable → Rule → Bool
 is_rule variables rule = is_spelled variables rule && is_shallow rule
@@ -89,12 +91,12 @@ is_rule variables rule = is_spelled variables rule && is_shallow rule
 -- What a file keeps.
 pub record IsFile (file : Contents) : Type 0 where
   pub some_cost : 1 ≤ length file.costs
-  pub costs_at_most : length file.costs ≤ 2
+  pub costs_at_most : length file.costs ≤ MOST_COSTS
   pub costs_differ : all_differ same_spelling file.costs ≡ true
   pub some_variable : 1 ≤ length file.variables
-  pub variables_at_most : length file.variables ≤ 64
+  pub variables_at_most : length file.variables ≤ MOST_VARIABLES
   pub names_differ : names_differ file.variables ≡ true
   pub each_variable : list_all (is_variable (length file.costs)) file.variables ≡ true
-  pub rules_at_most : length file.rules ≤ 1024
+  pub rules_at_most : length file.rules ≤ MOST_RULES
   pub each_rule : list_all (is_rule file.variables) file.rules ≡ true
   pub printable : IsPrintable file

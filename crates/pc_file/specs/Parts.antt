@@ -9,7 +9,6 @@ use Rattle.pc_file.specs.declared.rule.Rule.TheOpen.{Rule-F, Is, IsNot, OneOf, N
 use Rattle.pc_file.specs.declared.rule.Rule.TheFolds.{fold-Rule}
 use Rattle.pc_file.specs.declared.rule.Rule.TheViews.{out-Rule}
 use Rattle.pc_file.specs.Contents.{Contents}
-use Rattle.pc_file.specs.Products.{value_counts}
 use Rattle.pc_file.specs.Rule.{holds_step, holds}
 
 -- a rule with what comes before it: for which words it holds, and for which the parts of its subrules
@@ -62,9 +61,9 @@ sets_of variables obeys (rule ∷ rules) = (parts_of variables rule ++ (λ word.
 abbrev pub compile_list : Contents → List (List (List ℕ → Bool))
 compile_list file = sets_of file.variables (λ word. true) file.rules
 
--- the words over the numbers of values that pass a test are a set that is too large to be made
-abbrev pub is_too_large : List ℕ → (List ℕ → Bool) → Bool
-is_too_large domains test = nat_lt 262144 (size domains (λ word. is_word domains word && test word))
+-- the words over the numbers of values that pass a test are a set of more nodes than are allowed
+abbrev pub is_too_large : ℕ → List ℕ → (List ℕ → Bool) → Bool
+is_too_large most domains test = nat_lt most (size domains (λ word. is_word domains word && test word))
 
 -- what stands at a place passes a test, and nothing before it does
 pub record IsFirst {X : Type 0} (test : X → Bool) (items : List X) (place : ℕ) (item : X) : Type 0 where
@@ -72,17 +71,18 @@ pub record IsFirst {X : Type 0} (test : X → Bool) (items : List X) (place : �
   pub passes : test item ≡ true
   pub none_before : list_any test (take place items) ≡ false
 
--- the first set that is too large is that of this part of this rule, both counted from 1
-pub record IsNodeLimit (file : Contents) (rule part : ℕ) : Type 1 where
+-- of the sets that are made, rule by rule, the first of more nodes than are allowed is that of this part of this rule,
+-- both counted from 1
+pub record IsNodeLimit (most : ℕ) (domains : List ℕ) (made : List (List (List ℕ → Bool))) (rule part : ℕ) : Type 0 where
   pub rule_place : ℕ
   pub part_place : ℕ
   pub sets : List (List ℕ → Bool)
   pub set : List ℕ → Bool
   pub rule_is : rule ≡ rule_place + 1
   pub part_is : part ≡ part_place + 1
-  pub first_rule : IsFirst (list_any (is_too_large (value_counts file.variables))) (compile_list file) rule_place sets
-  pub first_part : IsFirst (is_too_large (value_counts file.variables)) sets part_place set
+  pub first_rule : IsFirst (list_any (is_too_large most domains)) made rule_place sets
+  pub first_part : IsFirst (is_too_large most domains) sets part_place set
 
--- no set is too large
-abbrev pub HasNoNodeLimit : Contents → Type 0
-HasNoNodeLimit file = list_any (list_any (is_too_large (value_counts file.variables))) (compile_list file) ≡ false
+-- none of the sets that are made has more nodes than are allowed
+abbrev pub HasNoNodeLimit : ℕ → List ℕ → List (List (List ℕ → Bool)) → Type 0
+HasNoNodeLimit most domains made = list_any (list_any (is_too_large most domains)) made ≡ false

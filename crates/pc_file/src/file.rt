@@ -8,9 +8,10 @@ use crate::catalogue::Catalogue;
 use crate::limits::{are_rules, are_variables};
 use crate::printed_lines::is_printable;
 use crate::rule::Rule;
+use crate::sizes::{MOST_COSTS, MOST_RULES};
 use crate::variable::Variable;
 use pc_base::{NoMemory, Sequence};
-use pc_diagram::Which;
+use pc_diagram::{MOST_VARIABLES, Which};
 use pc_names::{Name, Names, position};
 use std::alloc::Global;
 use std::marker::Model;
@@ -152,7 +153,11 @@ fn cost_at(position: usize) -> Which
 
 /// Whether so many costs, variables and rules keep the limits.
 fn has_right_counts(costs: usize, variables: usize, rules: usize) -> bool
-    ensures { IsTrue result ↔ ((1 ≤ costs) × (costs ≤ 2) × (1 ≤ variables) × (variables ≤ 64) × (rules ≤ 1024)) }
+    ensures { IsTrue result ↔ ((1 ≤ costs) × (costs ≤ MOST_COSTS) × (1 ≤ variables) × (variables ≤ MOST_VARIABLES) × (rules ≤ MOST_RULES)) }
 {
-    1 <= costs && costs <= 2 && 1 <= variables && variables <= 64 && rules <= 1024
+    1 <= costs
+        && costs <= MOST_COSTS
+        && 1 <= variables
+        && variables <= MOST_VARIABLES
+        && rules <= MOST_RULES
 }

@@ -6,7 +6,7 @@
 mod catalogue;
 mod file;
 mod holding;
-mod laws;
+pub mod laws;
 mod limits;
 mod listing;
 mod listing_text;
@@ -15,15 +15,13 @@ mod printed_lines;
 mod printed_size;
 mod products;
 mod rule;
+mod shared_file;
+mod sizes;
 mod variable;
 
 pub use catalogue::Catalogue;
 pub use file::{File, FileFault};
 pub use holding::holds;
-pub use laws::{
-    bike_has_eight_products, names_have_first_places, parts_end_with_the_rule,
-    products_are_the_words_that_obey,
-};
 pub use limits::is_reserved;
 pub use listing::{costs_of, listing_over, plain_listing};
 pub use listing_text::push_listing;
@@ -34,4 +32,9 @@ pub use printed_lines::{
 };
 pub use products::{PlainFault, has_few_words, plain_products};
 pub use rule::Rule;
+pub use shared_file::SharedFile;
+pub use sizes::{
+    MOST_COST, MOST_COSTS, MOST_MEMBERS, MOST_OPEN, MOST_RULES, MOST_WORDS, PRINTED_BYTES,
+    PRINTED_LINE_BYTES,
+};
 pub use variable::{Value, Variable};

@@ -9,16 +9,16 @@ ghost use Rattle.pc_file.specs.declared.rule.Rule.TheOpen.{OneOf, Table};
 use crate::holding::value_name;
 use crate::nesting::opens_at_most;
 use crate::rule::Rule;
+use crate::sizes::{MOST_COST, MOST_MEMBERS, MOST_OPEN};
 use crate::variable::{Value, Variable};
 use pc_base::{Sequence, all_differ};
+use pc_diagram::MOST_VALUES;
 use pc_names::same_word;
-
-const COST_LIMIT: i64 = 1_000_000_000;
 
 fn is_cost(cost: i64) -> bool
     ensures { result ≡ is_cost cost }
 {
-    -COST_LIMIT <= cost && cost <= COST_LIMIT
+    -MOST_COST <= cost && cost <= MOST_COST
 }
 
 fn is_value(costs: usize, value: &Value) -> bool
@@ -52,7 +52,7 @@ fn is_variable(costs: usize, variable: &Variable) -> bool
 fn is_sized(variable: &Variable) -> bool
     ensures { result ≡ is_sized variable.now }
 {
-    variable.values.len() >= 1 && variable.values.len() <= 64
+    variable.values.len() >= 1 && variable.values.len() <= MOST_VALUES as usize
 }
 
 fn are_values(costs: usize, values: &[Value]) -> bool
@@ -69,11 +69,11 @@ pub fn are_variables(costs: usize, variables: &[Variable]) -> bool
         .all(|variable| is_variable(costs, variable))
 }
 
-/// Whether each rule can be spelled, names only what is there and opens at most 64 parentheses at once.
+/// Whether each rule can be spelled, names only what is there and opens at most so many parentheses at once as may be.
 pub fn are_rules(variables: &[Variable], rules: &[Rule]) -> bool
     ensures { result ≡ list_all (is_rule variables.now) rules.now }
 {
-    rules.iter().all(|rule| is_spelled(variables, rule) && opens_at_most(rule, 64))
+    rules.iter().all(|rule| is_spelled(variables, rule) && opens_at_most(rule, MOST_OPEN))
 }
 
 fn has_variable(variables: &[Variable], variable: u32) -> bool
@@ -173,9 +173,9 @@ fn is_chain(variables: &[Variable], rules: &[Rule]) -> bool
 
 #[cycle(spelling)]
 fn is_at_most(variables: &[Variable], most: u32, rules: &[Rule]) -> bool
-    ensures { result ≡ (nat_le most 64 && nat_le 1 (length rules.now) && nat_le (length rules.now) 64 && list_all (is_spelled variables.now) rules.now) }
+    ensures { result ≡ (nat_le most MOST_MEMBERS && nat_le 1 (length rules.now) && nat_le (length rules.now) MOST_MEMBERS && list_all (is_spelled variables.now) rules.now) }
 {
-    most <= 64 && rules.len() >= 1 && rules.len() <= 64 && all_spelled(variables, rules)
+    most as usize <= MOST_MEMBERS && rules.len() >= 1 && rules.len() <= MOST_MEMBERS && all_spelled(variables, rules)
 }
 
 #[cycle(spelling)]

@@ -7,6 +7,7 @@ ghost use Rattle.pc_file.specs.Costs.{pair_of, costs_of, file_listing};
 
 use crate::file::File;
 use crate::products::{PlainFault, plain_products};
+use crate::sizes::MOST_WORDS;
 use crate::variable::{Value, Variable};
 use pc_base::{NoMemory, Sequence};
 use pc_diagram::{Bounds, Choices, CostPair, Costs, Listing, Word, listing};
@@ -20,8 +21,8 @@ pub fn plain_listing(
     bounds: &Bounds,
 ) -> Result<Listing, PlainFault>
     ensures listing { IfOk result (λ listing. listing ≡ file_listing file.now choices.now bounds.now) }
-    ensures few { IfOk result (λ _. words_of file.now ≤ 65536) }
-    ensures too_many { IsErrOf result PlainFault.TooMany → 65536 < words_of file.now }
+    ensures few { IfOk result (λ _. words_of file.now ≤ MOST_WORDS) }
+    ensures too_many { IsErrOf result PlainFault.TooMany → MOST_WORDS < words_of file.now }
 {
     let products = plain_products(alloc, file)?;
     Ok(listing_over(alloc, file, products.as_slice(), choices, bounds)?)

@@ -1,5 +1,4 @@
-//! How many bytes the lines of a printed form have, counted without printing them, and their limits: 65,536 bytes in a
-//! line, and 1,048,576 bytes in all with the line feeds.
+//! How many bytes the lines of a printed form have, counted without printing them, with their limits.
 
 ghost use Rattle.std.specs.Prelude.{◌≡◌, ◌↔◌, length, map, IsTrue};
 ghost use Rattle.std.specs.List.{flat_map};
@@ -8,14 +7,10 @@ ghost use Rattle.pc_file.specs.PrintedSize.{counted, with_line, with_lines, IsPr
 
 use crate::printed_size::rule_size;
 use crate::rule::Rule;
+use crate::sizes::{PRINTED_BYTES, PRINTED_LINE_BYTES};
 use crate::variable::{Value, Variable};
 use pc_base::signed_width;
 use pc_names::Name;
-
-/// The most bytes of a printed line, and of all with their line feeds.
-const LINE_BYTES: usize = 65_536;
-
-const TEXT_BYTES: usize = 1_048_576;
 
 /// The bytes of a line `product 1`.
 pub fn header_line_size() -> usize
@@ -75,11 +70,11 @@ pub fn end_line_size() -> usize
 pub fn with_line(bytes: usize, line: usize) -> Option<usize>
     ensures { result ≡ with_line bytes line }
 {
-    if line > LINE_BYTES {
+    if line > PRINTED_LINE_BYTES {
         return None;
     }
     let bytes = bytes.saturating_add(line + 1);
-    (bytes <= TEXT_BYTES).then_some(bytes)
+    (bytes <= PRINTED_BYTES).then_some(bytes)
 }
 
 fn with_costs(bytes: usize, costs: &[Name]) -> Option<usize>

@@ -7,14 +7,12 @@ ghost use Rattle.pc_file.specs.Limits.{is_sized};
 
 use crate::file::File;
 use crate::holding::all_hold;
+use crate::sizes::MOST_WORDS;
 use crate::variable::Variable;
 use pc_base::{NoMemory, Sequence};
 use pc_diagram::Word;
 use std::alloc::Global;
 use thiserror::Error;
-
-/// The most words that a plain list goes through.
-const MOST_WORDS: usize = 65_536;
 
 /// Why there is no plain list.
 #[derive(Clone, Copy, Debug, PartialEq, Eq, Error)]
@@ -39,8 +37,8 @@ impl From<NoMemory> for PlainFault {
 /// The products of a file in lexicographic order, by trying every word.
 pub fn plain_products(alloc: Global, file: &File) -> Result<Sequence<Word>, PlainFault>
     ensures products { IfOk result (λ words. words ≡ products file.now) }
-    ensures few { IfOk result (λ _. words_of file.now ≤ 65536) }
-    ensures too_many { IsErrOf result PlainFault.TooMany → 65536 < words_of file.now }
+    ensures few { IfOk result (λ _. words_of file.now ≤ MOST_WORDS) }
+    ensures too_many { IsErrOf result PlainFault.TooMany → MOST_WORDS < words_of file.now }
 {
     if !has_few_words(file) {
         return Err(PlainFault::TooMany);
@@ -51,18 +49,18 @@ pub fn plain_products(alloc: Global, file: &File) -> Result<Sequence<Word>, Plai
     Ok(words)
 }
 
-/// Whether the numbers of values multiply to at most 65,536.
+/// Whether the numbers of values multiply to at most `MOST_WORDS`.
 pub fn has_few_words(file: &File) -> bool
-    ensures { IsTrue result ↔ (words_of file.now ≤ 65536) }
+    ensures { IsTrue result ↔ (words_of file.now ≤ MOST_WORDS) }
 {
     word_count(file.variables()).is_some()
 }
 
-/// How many words there are over these variables, where there are at most 65,536.
+/// How many words there are over these variables, where there are at most `MOST_WORDS`.
 fn word_count(variables: &[Variable]) -> Option<usize>
     requires { list_all is_sized variables.now ≡ true }
-    ensures { MatchOption result (65536 < word_count (value_counts variables.now))
-        (λ count. (count ≡ word_count (value_counts variables.now)) × (count ≤ 65536)) }
+    ensures { MatchOption result (MOST_WORDS < word_count (value_counts variables.now))
+        (λ count. (count ≡ word_count (value_counts variables.now)) × (count ≤ MOST_WORDS)) }
 {
     let Some((variable, others)) = variables.split_first() else {
         return Some(1);

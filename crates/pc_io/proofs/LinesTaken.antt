@@ -1,5 +1,5 @@
 -- What taking a line leaves of all lines.
-use Rattle.std.proofs.Common.{◌≡◌, ℕ, ◌<◌, Bool, true, false, List, [], ◌∷◌, ◌++◌, length, Option, Some, None, Ok, IsTrue, IfSome, refl, sym, ap, ◌∙◌, arith, append_assoc}
+use Rattle.std.proofs.Common.{◌≡◌, ℕ, ◌<◌, Bool, true, false, List, [], ◌∷◌, ◌++◌, length, Option, Some, None, Ok, IsTrue, refl, sym, ap, ◌∙◌, arith, append_assoc}
 use Rattle.std.specs.Option.{option_map}
 use Rattle.std.specs.Io.KnownBytes.{IsAtEnd, prepend_known}
 use Rattle.std.proofs.lemmas.List.{append-nil}
@@ -25,19 +25,3 @@ lines_taken old (Some later) line true h some is at_end =
 pub at_end_of : (kept : List ℕ) (rest : Option (List ℕ)) → kept ≡ [] → IsAtEnd rest → IsAtEnd (prepend_known kept rest)
 at_end_of kept None none end = end
 at_end_of kept (Some xs) none end = ap (λ (x : List ℕ). x ++ xs) none ∙ end
-
-some_same : (x y : List (List ℕ)) → Some x ≡ Some y → x ≡ y
-some_same x y e = cc
-
-some_is_none : (x : List (List ℕ)) → Some x ≡ None → ⊥
-some_is_none x e = cc
-
--- at the end the lines given are all lines
-pub all_given : (all : List (List ℕ)) (told mid new : Option (List ℕ)) → option_map lines told ≡ option_map (λ later. all ++ lines later) mid → mid ≡ prepend_known [] new → IsAtEnd new
-    → IfSome told (λ b. all ≡ lines b)
-all_given all None mid new so_far is end = tt
-all_given all (Some b) mid None so_far is end = absurd (some_is_none (lines b) (so_far ∙ ap (option_map (λ later. all ++ lines later)) is))
-all_given all (Some b) mid (Some later) so_far is end =
-    let same : lines b ≡ all ++ lines later = some_same _ _ (so_far ∙ ap (option_map (λ later. all ++ lines later)) is) in
-    let none : all ++ lines later ≡ all = ap (λ (x : List ℕ). all ++ lines x) end ∙ ap (λ (x : List (List ℕ)). all ++ x) lines-nil ∙ append-nil all in
-    sym (same ∙ none)

@@ -17,7 +17,7 @@ pub record Kept (start now : Held) (rest_then rest : Option (List ℕ)) (faults_
   pub ended : IsTrue now.ended → now.ahead ≡ []
   pub at_end : IsTrue now.ended → IsAtEnd rest
   pub unread : (list_any is_feed (held start) || start.ended) ≡ true → Same × (held now ≡ held start) × (now.ended ≡ start.ended)
-  pub calm : faults ≡ faults_then
+  pub faultless : faults ≡ faults_then
   pub same_aside : aside ≡ aside_then
 
 -- p once its line so far is moved to the part

@@ -97,21 +97,6 @@ took_on xs ys a b before mid after stays calm first next =
 pub took_both : (xs ys : List (List ℕ)) (a b : List ℕ) (before mid after : Moment) → mid.cutter.ended ≡ false → Took xs a before mid → Took ys b mid after → Took (xs ++ ys) (a ++ b) before after
 took_both xs ys a b before mid after going = took_on xs ys a b before mid after (λ ended. absurd (both_ways mid.cutter.ended going ended)) (λ ended. absurd (both_ways mid.cutter.ended going ended))
 
--- no line was left
-pub took_none : (l m : Cutter) (rest mid : Option (List ℕ)) → stream l rest ≡ prepend_known [] (stream m mid) → m.given ≡ l.given + 0 → (m.line_limit ≡ l.line_limit) × (m.total_limit ≡ l.total_limit)
-    → Took [] [] (record { cutter = l; rest = rest }) (record { cutter = m; rest = mid })
-took_none l m rest mid read given limits =
-    let left : left_to_give l ≡ left_to_give m = omega (arith, given, limits.1) in
-    record {
-      read = read;
-      given = given;
-      rising = omega arith;
-      cut = λ later may. refl;
-      judged = λ later may. ap (λ (n : ℕ). broken_limit l.line_limit n later) left;
-      line_limit = limits.0;
-      total_limit = limits.1;
-    }
-
 turned : (line_limit left : ℕ) (told : Option (List ℕ)) (fault : LineFault) → IfSome told (λ b. Err fault ≡ answer_to line_limit left b) → IfSome told (λ b. answer_to line_limit left b ≡ Err fault)
 turned line_limit left None fault calls = tt
 turned line_limit left (Some b) fault calls = sym calls

@@ -25,7 +25,7 @@ pub record ReadSoFar (line_limit total_limit : ℕ) (text : List ℕ) (l : Cutte
   pub none_kept : IsTrue l.ended → l.kept ≡ []
   -- what comes after the text is judged by what is left of the limits
   pub judged : (later : List ℕ) → (IsTrue l.ended → later ≡ []) → broken_limit line_limit total_limit (text ++ later) ≡ broken_limit line_limit (total_limit - length text) later
-  pub calm : faults ≡ faults_then
+  pub faultless : faults ≡ faults_then
   pub same_aside : aside ≡ aside_then
 
 -- a line is never taken after the end was given
@@ -73,7 +73,7 @@ read_on line_limit total_limit text line l m rest_then rest mid faults_then faul
           ∙ before.judged (bytes ++ later) (λ ended. absurd (both_ways l.ended open_ ended))
           ∙ broken-step line_limit (total_limit - length text) line later m.ended fits.0 short (omega (arith, size)) none
           ∙ ap (λ (n : ℕ). broken_limit line_limit n later) fewer;
-      calm = count ∙ before.calm;
+      faultless = count ∙ before.faultless;
       same_aside = same ∙ before.same_aside;
     }
 

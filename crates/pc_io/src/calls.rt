@@ -28,6 +28,13 @@ impl PlannedCalls {
         PlannedCalls { failing, made: 0 }
     }
 
+    /// How many calls were made.
+    pub fn made(&self) -> u64
+        ensures { result ≡ self.now.made }
+    {
+        self.made
+    }
+
     /// Counts a call, and tells whether it is to fail.
     pub fn next_fails(&mut self) -> bool
         ensures fails { result ≡ fails_next self.old }

@@ -61,7 +61,7 @@ pub fn cut_line<S: Source>(
     ensures unread { (list_any is_feed (held pending.old) || pending.old.ended) ≡ true
         → (source.new ≡ source.old) × (pending.new.ended ≡ pending.old.ended)
         × (held pending.old ≡ taken result pending.new.ended ++ held pending.new) }
-    ensures calm { result ≢ Err LineFault.ReadFault → S.read_faults source.new ≡ S.read_faults source.old }
+    ensures faultless { result ≢ Err LineFault.ReadFault → S.read_faults source.new ≡ S.read_faults source.old }
     ensures counted { S.read_faults source.old ≤ S.read_faults source.new }
     ensures aside { S.read_aside source.new ≡ S.read_aside source.old }
 {

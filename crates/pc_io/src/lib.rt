@@ -22,7 +22,7 @@ mod whole;
 
 pub use failed::Failed;
 pub use line_fault::LineFault;
-pub use lines::Lines;
+pub use lines::{Lines, MOST_LINE_BYTES};
 pub use memory_sink::MemorySink;
 pub use memory_source::MemorySource;
 pub use put::put_all;

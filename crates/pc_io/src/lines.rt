@@ -17,6 +17,9 @@ use pc_base::{Line, NoMemory};
 use std::alloc::Global;
 use std::marker::Model;
 
+/// The most bytes of a line of what the program reads, without its line feed.
+pub const MOST_LINE_BYTES: u64 = 65_536;
+
 /// Cuts a source into lines. It holds no source: each call is to be given the same one.
 ///
 /// A line is the bytes up to the next line feed, without it, or those after the last line feed if there are any. A
@@ -145,7 +148,7 @@ impl Lines {
         ensures none_kept { result ≡ Err LineFault.ReadFault → HasNoFeed self.new.kept }
         ensures unread { (list_any is_feed self.old.kept || self.old.ended) ≡ true
             → (source.new ≡ source.old) × (self.old.kept ≡ taken result self.new.ended ++ self.new.kept) }
-        ensures calm { result ≢ Err LineFault.ReadFault → S.read_faults source.new ≡ S.read_faults source.old }
+        ensures faultless { result ≢ Err LineFault.ReadFault → S.read_faults source.new ≡ S.read_faults source.old }
         ensures counted { S.read_faults source.old ≤ S.read_faults source.new }
         ensures aside { S.read_aside source.new ≡ S.read_aside source.old }
     {

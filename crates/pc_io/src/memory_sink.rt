@@ -75,7 +75,7 @@ impl Sink for MemorySink {
 
         // A fault is counted at most once, and nothing else is.
         ensures once { OnErr result (failed_writes self.new ≤ failed_writes self.old + 1) }
-        ensures calm { OnOk result (failed_writes self.new ≡ failed_writes self.old) }
+        ensures faultless { OnOk result (failed_writes self.new ≡ failed_writes self.old) }
         ensures counted { failed_writes self.old ≤ failed_writes self.new }
 
         // It fails exactly as planned, and where there is no room for a byte.

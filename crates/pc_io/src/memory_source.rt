@@ -46,6 +46,13 @@ impl MemorySource {
             calls: PlannedCalls::new(failing),
         }
     }
+
+    /// How many reads there were.
+    pub fn reads(&self) -> u64
+        ensures { result ≡ self.now.calls.made }
+    {
+        self.calls.made()
+    }
 }
 
 impl Source for MemorySource {
@@ -63,7 +70,7 @@ impl Source for MemorySource {
         ensures failed { OnErr result (Rose (failed_calls self.old.calls) (failed_calls self.new.calls)) }
         ensures kept { OnErr result (self.new.left ≡ self.old.left) }
 
-        ensures calm { OnOk result (failed_calls self.new.calls ≡ failed_calls self.old.calls) }
+        ensures faultless { OnOk result (failed_calls self.new.calls ≡ failed_calls self.old.calls) }
         ensures counted { failed_calls self.old.calls ≤ failed_calls self.new.calls }
 
         // It fails exactly as planned.

@@ -7,13 +7,10 @@ ghost use Rattle.pc_base.specs.Lines.{first_line};
 
 use crate::failed::Failed;
 use crate::source::Source;
-use memchr::memchr;
-use pc_base::{Line, NoMemory};
+use pc_base::{Line, NoMemory, first_line_width};
 use std::alloc::Global;
 use std::marker::Model;
 use std::mem;
-
-const LINE_FEED: u8 = b'\n';
 
 /// How many bytes a read asks for.
 const BLOCK: usize = 65_536;
@@ -76,11 +73,7 @@ impl Pending {
     pub fn line_bytes_ahead(&self) -> usize
         ensures { result ≡ length (first_line self.now.ahead) }
     {
-        let ahead = &self.block[self.start..self.end];
-        match memchr(LINE_FEED, ahead) {
-            Some(place) => place,
-            None => ahead.len(),
-        }
+        first_line_width(&self.block[self.start..self.end])
     }
 
     /// Moves bytes from ahead to the part. Want of memory leaves all as it was.
@@ -131,7 +124,7 @@ impl Pending {
         ensures failed { OnErr result (Rose (S.read_faults source.old) (S.read_faults source.new)) }
         ensures kept { OnErr result (self.new ≡ self.old) }
 
-        ensures calm { OnOk result (S.read_faults source.new ≡ S.read_faults source.old) }
+        ensures faultless { OnOk result (S.read_faults source.new ≡ S.read_faults source.old) }
         ensures counted { S.read_faults source.old ≤ S.read_faults source.new }
         ensures aside { S.read_aside source.new ≡ S.read_aside source.old }
     {

@@ -15,7 +15,7 @@ pub fn put_all<K: Sink>(sink: &mut K, bytes: &[u8]) -> Result<(), Failed>
     ensures failed { OnErr result (Rose (K.write_faults sink.old) (K.write_faults sink.new)) }
     ensures part { OnErr result (GrewByPart bytes.now (K.written sink.old) (K.written sink.new)) }
 
-    ensures calm { OnOk result (K.write_faults sink.new ≡ K.write_faults sink.old) }
+    ensures faultless { OnOk result (K.write_faults sink.new ≡ K.write_faults sink.old) }
     ensures counted { K.write_faults sink.old ≤ K.write_faults sink.new }
     ensures aside { K.write_aside sink.new ≡ K.write_aside sink.old }
 {

@@ -58,7 +58,7 @@ pub fn read_line<S: Source>(
     ensures unread { (list_any is_feed (held pending.old) || pending.old.ended) ≡ true
         → (source.new ≡ source.old) × (held pending.new ≡ held pending.old) × (pending.new.ended ≡ pending.old.ended) }
     // A read that failed is told at once.
-    ensures calm { result ≢ Ok Reached.Fault → S.read_faults source.new ≡ S.read_faults source.old }
+    ensures faultless { result ≢ Ok Reached.Fault → S.read_faults source.new ≡ S.read_faults source.old }
     ensures counted { S.read_faults source.old ≤ S.read_faults source.new }
     ensures aside { S.read_aside source.new ≡ S.read_aside source.old }
 {

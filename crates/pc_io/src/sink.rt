@@ -28,7 +28,7 @@ pub trait Sink {
         ensures kept { OnErr result (written self.new ≡ written self.old) }
 
         // The count rises at no other answer.
-        ensures calm { OnOk result (write_faults self.new ≡ write_faults self.old) }
+        ensures faultless { OnOk result (write_faults self.new ≡ write_faults self.old) }
         ensures counted { write_faults self.old ≤ write_faults self.new }
         ensures aside { write_aside self.new ≡ write_aside self.old };
 }

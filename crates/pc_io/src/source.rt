@@ -29,7 +29,7 @@ pub trait Source {
         ensures kept { OnErr result (rest self.new ≡ rest self.old) }
 
         // The count rises at no other answer.
-        ensures calm { OnOk result (read_faults self.new ≡ read_faults self.old) }
+        ensures faultless { OnOk result (read_faults self.new ≡ read_faults self.old) }
         ensures counted { read_faults self.old ≤ read_faults self.new }
         ensures aside { read_aside self.new ≡ read_aside self.old };
 }

@@ -66,7 +66,7 @@ impl<W: Write> Sink for StdSink<W> {
         ensures part { OnErr result (AppendsPart self.old.contents self.new.contents from.now) }
         // A fault is counted once, and nothing else is.
         ensures failed { OnErr result (self.new.faults ≡ min (self.old.faults + 1) (2 ^ 64 - 1)) }
-        ensures calm { OnOk result (self.new.faults ≡ self.old.faults) }
+        ensures faultless { OnOk result (self.new.faults ≡ self.old.faults) }
         ensures counted { self.old.faults ≤ self.new.faults }
     {
         let result = write_through(&mut self.writer, from);

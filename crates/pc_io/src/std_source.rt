@@ -44,7 +44,7 @@ impl<R: Read> Source for StdSource<R> {
         ensures consumes { ReadConsumes self.old.remaining self.new.remaining result into.new }
         // A fault is counted once, and nothing else is.
         ensures failed { OnErr result (self.new.faults ≡ min (self.old.faults + 1) (2 ^ 64 - 1)) }
-        ensures calm { OnOk result (self.new.faults ≡ self.old.faults) }
+        ensures faultless { OnOk result (self.new.faults ≡ self.old.faults) }
         ensures counted { self.old.faults ≤ self.new.faults }
     {
         match self.reader.read(into) {

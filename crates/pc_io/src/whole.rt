@@ -40,7 +40,7 @@ pub fn whole_text<S: Source>(
         result ≡ text_within line_limit total_limit b) }
     ensures failed { result ≡ Err LineFault.ReadFault → Rose (S.read_faults source.old) (S.read_faults source.new) }
 
-    ensures calm { result ≢ Err LineFault.ReadFault → S.read_faults source.new ≡ S.read_faults source.old }
+    ensures faultless { result ≢ Err LineFault.ReadFault → S.read_faults source.new ≡ S.read_faults source.old }
     ensures counted { S.read_faults source.old ≤ S.read_faults source.new }
     ensures aside { S.read_aside source.new ≡ S.read_aside source.old }
 {

@@ -4,3 +4,4 @@ pub mod Places
 pub mod Spellings
 pub mod Written
 pub mod SpaceLemmas
+pub mod LineWordLemmas

@@ -1,4 +1,5 @@
 pub mod Spaces
+pub mod LineWords
 pub mod Spelling
 pub mod Name
 pub mod Places

@@ -13,13 +13,13 @@ use std::hash::{Hash, Hasher};
 use std::marker::Model;
 use thiserror::Error;
 
-/// The bytes of the longest name.
-const LONGEST: usize = 32;
+/// How many bytes the longest name has.
+pub const LONGEST_NAME: usize = 32;
 
 /// A name: one letter from a to z, and after it at most 31 of a to z, 0 to 9 and `_`.
 #[derive(Clone, Copy, Debug)]
 pub struct Name {
-    bytes: [u8; LONGEST],
+    bytes: [u8; LONGEST_NAME],
     count: u8,
 }
 
@@ -49,7 +49,7 @@ impl Name {
         if !spells_name(bytes) {
             return Err(NameFault);
         }
-        let mut kept = [0; LONGEST];
+        let mut kept = [0; LONGEST_NAME];
         kept[..bytes.len()].copy_from_slice(bytes);
         Ok(Name {
             bytes: kept,
@@ -98,7 +98,7 @@ fn spells_name(bytes: &[u8]) -> bool
 {
     match bytes {
         [] => false,
-        [first, rest @ ..] => is_letter(*first) && rest.len() < LONGEST && may_follow(rest),
+        [first, rest @ ..] => is_letter(*first) && rest.len() < LONGEST_NAME && may_follow(rest),
     }
 }
 

@@ -3,12 +3,12 @@
 ghost use Rattle.std.specs.Prelude.{◌≡◌, ℤ, ◌↔◌, Some, IfSome, IsTrue, FitsSigned};
 ghost use Rattle.std.specs.Int.{w64};
 ghost use Rattle.std.specs.Fmt.{signed_decimal};
-ghost use Rattle.pc_names.specs.Number.{int_of};
+ghost use Rattle.pc_names.specs.Number.{int_of, unsigned_of};
 
 use itoa::Buffer;
 
 /// The bytes of the longest spelling, that of the least number.
-const LONGEST: usize = 20;
+const LONGEST_NUMBER: usize = 20;
 
 /// The number of 64 bits that the bytes spell in canonical decimal: digits with no leading zero, and `-` before
 /// those of a negative number.
@@ -18,6 +18,16 @@ pub fn read_int(bytes: &[u8]) -> Option<i64>
     ensures value { result ≡ int_of bytes.now }
 {
     spelt_int(bytes)
+}
+
+/// Such a number that isn't negative.
+pub fn read_unsigned(bytes: &[u8]) -> Option<u64>
+    ensures { result ≡ unsigned_of bytes.now }
+{
+    match read_int(bytes) {
+        Some(number) if number >= 0 => Some(number as u64),
+        _ => None,
+    }
 }
 
 /// The number whose spelling the bytes are.
@@ -36,7 +46,7 @@ fn spelt_int(bytes: &[u8]) -> Option<i64>
 fn only_candidate(bytes: &[u8]) -> Option<i64>
     ensures { (z : ℤ) → FitsSigned w64 z → bytes.now ≡ signed_decimal z → result ≡ Some z }
 {
-    if bytes.len() > LONGEST {
+    if bytes.len() > LONGEST_NUMBER {
         return None;
     }
     let Ok(text) = str::from_utf8(bytes) else {
@@ -52,8 +62,3 @@ fn spells(number: i64, bytes: &[u8]) -> bool
     let mut buffer = Buffer::new();
     buffer.format(number).as_bytes() == bytes
 }
-
-/// No two numbers have one spelling.
-pub fn spelling_tells_number(first: i64, second: i64)
-    ensures { signed_decimal first ≡ signed_decimal second → first ≡ second }
-{}

@@ -11,13 +11,13 @@ use Rattle.pc_names.proofs.Places.{first_place_of_name}
 use Rattle.pc_file.specs.declared.catalogue.Catalogue.{Catalogue}
 use Rattle.pc_file.specs.declared.variable.Variable.{Variable}
 use Rattle.pc_names.specs.Spelling.{same_spelling}
-use Rattle.pc_file.specs.Catalogue.{variable_position, value_position}
+use Rattle.pc_file.specs.Catalogue.{Indexes, variable_position, value_position}
 use Rattle.pc_file.specs.Names.{value_name}
 use Rattle.pc_file.specs.Limits.{has_variable, has_value, is_row}
 use Rattle.pc_rules.specs.declared.kind.Kind.{Kind}
 use Rattle.pc_rules.specs.declared.kind.Kind.TheVariants as kind
 use Rattle.pc_rules.specs.Outcome.{Outcome, ◌>>=◌}
-use Rattle.pc_rules.specs.Naming.{position_or_unknown, variable_at, value_at, all_ok, variables_at, values_at, row_at, rows_at, HoldsNames}
+use Rattle.pc_rules.specs.Naming.{position_or_unknown, variable_at, value_at, all_ok, variables_at, values_at, row_at, rows_at}
 
 -- both steps gave a value
 pub bind_ok : {A B : Type 0} (first : Outcome A) (next : A → Outcome B) (y : B) → (first >>= next) ≡ Ok y → (x : A) × (first ≡ Ok x) × (next x ≡ Ok y)
@@ -55,13 +55,13 @@ all_ok-each f test each (x ∷ xs) ys e =
     let is = the_ok (a.0 ∷ b.0) ys b.2 in
     (ap (list_all test) (sym is) ∙ and_from (test a.0) (list_all test b.0) (each x a.0 a.1) others.0, ap length (sym is) ∙ ap suc others.1)
 
-module _ (names : Catalogue) (variables : List Variable) (holds : HoldsNames names variables) where
+module _ (names : Catalogue) (variables : List Variable) (holds : Indexes names variables) where
   pub variable_at-has : (word : List ℕ) (n : ℕ) → variable_at names word ≡ Ok n → has_variable variables n ≡ true
   unfolding variable_at
   variable_at-has word n e =
       let s = cond_ok (is_name word) (position_or_unknown (variable_position names word)) kind.Unknown n e in
       let below : n < length names.variables = found_at names.variables word n (position_ok (variable_position names word) n s.1) in
-      let count : length names.variables ≡ length variables = ap (length {A = List ℕ}) holds.of_variables ∙ length-map variables (λ variable. variable.name) in
+      let count : length names.variables ≡ length variables = ap (length {A = List ℕ}) holds.variables_are ∙ length-map variables (λ variable. variable.name) in
       le-leb (n + 1) (length variables) (omega (arith, below, count))
 
   value_there : (v n : ℕ) (word : List ℕ) (variable : Option Variable) → slice_get variables v ≡ variable →
@@ -81,7 +81,7 @@ module _ (names : Catalogue) (variables : List Variable) (holds : HoldsNames nam
   value_at-has v word n e =
       let s = cond_ok (is_name word) (position_or_unknown (value_position names v word)) kind.Unknown n e in
       let found : value_position names v word ≡ Some n = position_ok (value_position names v word) n s.1 in
-      let list = ap (λ l. slice_get l v) holds.of_values ∙ slice_get-map (λ (x : Variable). map (λ value. value.name) x.values) variables v in
+      let list = ap (λ l. slice_get l v) holds.values_are ∙ slice_get-map (λ (x : Variable). map (λ value. value.name) x.values) variables v in
       value_there v n word (slice_get variables v) refl (sym (ap (option_and_then (position (same_spelling word))) list) ∙ found)
 
   pub variables_at-have : (words : List (List ℕ)) (these : List ℕ) → variables_at names words ≡ Ok these → (list_all (has_variable variables) these ≡ true) × (length these ≡ length words)

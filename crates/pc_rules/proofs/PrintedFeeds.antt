@@ -14,7 +14,7 @@ use Rattle.pc_file.specs.declared.rule.Rule.TheVariants as rule
 use Rattle.pc_file.specs.Limits.{has_variable, has_value, is_row, is_spelled_step, is_spelled}
 use Rattle.pc_file.specs.PrintedRule.{Printed, printed_variable, printed_value, printed_row, in_place, printing_step, printing, printed_in_place, printed_rule}
 use Rattle.pc_file.proofs.RuleLemmas.{is_spelled-And, is_spelled-Or, is_spelled-AtMost}
-use Rattle.pc_rules.specs.Naming.{HoldsNames}
+use Rattle.pc_file.specs.Catalogue.{Indexes}
 use Rattle.pc_rules.specs.Nameable.{Nameable}
 use Rattle.pc_rules.proofs.PrintedForms.{join_by-map, printed-And, printed-Or, printed-Implies, printed-AtMost}
 use Rattle.pc_rules.proofs.PrintedTokens.{is_word, name-word, names-words, number-word}
@@ -70,7 +70,7 @@ in_place-feedless asked p text = by (nat_lt p.strength asked)
     by true = three (codes "(") p.text (codes ")") refl text refl
     by false = text
 
-module _ (names : Catalogue) (variables : List Variable) (holds : HoldsNames names variables) (are : Nameable variables) where
+module _ (names : Catalogue) (variables : List Variable) (holds : Indexes names variables) (are : Nameable variables) where
   abbrev Feedless : Rule → Type 0
   Feedless r = is_spelled variables r ≡ true → HasNoFeed (printed_rule variables r)
 

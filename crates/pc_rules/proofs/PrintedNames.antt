@@ -13,11 +13,11 @@ use Rattle.pc_file.specs.declared.catalogue.Catalogue.{Catalogue}
 use Rattle.pc_file.specs.declared.variable.Value.{Value}
 use Rattle.pc_file.specs.declared.variable.Variable.{Variable}
 use Rattle.pc_names.specs.Spelling.{same_spelling}
-use Rattle.pc_file.specs.Catalogue.{variable_position, value_position}
+use Rattle.pc_file.specs.Catalogue.{Indexes, variable_position, value_position}
 use Rattle.pc_file.specs.Limits.{is_reserved, is_sized, has_variable, has_value, is_row, variable_names, value_names, values_differ}
 use Rattle.pc_file.specs.PrintedRule.{printed_variable, printed_value}
 use Rattle.pc_rules.specs.Outcome.{Outcome, ◌>>=◌}
-use Rattle.pc_rules.specs.Naming.{position_or_unknown, variable_at, value_at, all_ok, variables_at, values_at, row_at, rows_at, HoldsNames}
+use Rattle.pc_rules.specs.Naming.{position_or_unknown, variable_at, value_at, all_ok, variables_at, values_at, row_at, rows_at}
 use Rattle.pc_rules.specs.Nameable.{is_named, is_free, Nameable}
 use Rattle.pc_rules.proofs.ListPlaces.{nowhere, at_place, all_at}
 
@@ -56,7 +56,7 @@ own_position xs n x differ at = by (position (same_spelling x) xs) (first_place_
 position-ok : (found : Option ℕ) (n : ℕ) → found ≡ Some n → n < 64 → position_or_unknown found ≡ Ok n
 position-ok found n is few = rw is (rw (lt-ltb n (2 ^ 32) (omega arith)) refl)
 
-module _ (names : Catalogue) (variables : List Variable) (holds : HoldsNames names variables) (are : Nameable variables) where
+module _ (names : Catalogue) (variables : List Variable) (holds : Indexes names variables) (are : Nameable variables) where
   all_names_differ : all_differ same_spelling (variable_names variables) ≡ true
   all_names_differ = (and_parts (all_differ same_spelling (variable_names variables)) (list_all values_differ variables) are.differ).0
 
@@ -91,7 +91,7 @@ module _ (names : Catalogue) (variables : List Variable) (holds : HoldsNames nam
       let f = found v has in
       let name = f.variable.name in
       let at : slice_get (variable_names variables) v ≡ Some name = slice_get-map (λ (x : Variable). x.name) variables v ∙ ap (option_map (λ (x : Variable). x.name)) f.at in
-      let place : variable_position names name ≡ Some v = ap (position (same_spelling name)) holds.of_variables ∙ own_position (variable_names variables) v name all_names_differ at in
+      let place : variable_position names name ≡ Some v = ap (position (same_spelling name)) holds.variables_are ∙ own_position (variable_names variables) v name all_names_differ at in
       let named : is_name name ≡ true = (and_parts (is_name name) (list_all is_name (value_names f.variable)) (all_at is_named variables v f.variable are.each_named f.at)).0 in
       ap (variable_at names) (printed_variable-is v f.variable f.at) ∙ rw named (position-ok (variable_position names name) v place f.below)
 
@@ -145,7 +145,7 @@ module _ (names : Catalogue) (variables : List Variable) (holds : HoldsNames nam
       let differ : all_differ same_spelling (value_names f.variable) ≡ true =
       all_at values_differ variables v f.variable (and_parts (all_differ same_spelling (variable_names variables)) (list_all values_differ variables) are.differ).1 f.at in
       let list : slice_get names.values v ≡ Some (value_names f.variable) =
-      ap (λ l. slice_get l v) holds.of_values ∙ slice_get-map value_names variables v ∙ ap (option_map value_names) f.at in
+      ap (λ l. slice_get l v) holds.values_are ∙ slice_get-map value_names variables v ∙ ap (option_map value_names) f.at in
       let place : value_position names v name ≡ Some a =
       ap (option_and_then (position (same_spelling name))) list ∙ own_position (value_names f.variable) a name differ (name_at v a f) in
       let sized = and_parts (nat_le 1 (length f.variable.values)) (nat_le (length f.variable.values) 64) (all_at is_sized variables v f.variable are.each_sized f.at) in

@@ -10,7 +10,7 @@ use Rattle.pc_file.specs.Nesting.{nesting}
 use Rattle.pc_file.specs.PrintedRule.{printed_rule}
 use Rattle.pc_rules.specs.declared.checks.AtMostFault.TheVariants.{Number, Length}
 use Rattle.pc_rules.specs.Token.{tokens_after, tokens_of, is_too_deep}
-use Rattle.pc_rules.specs.Naming.{HoldsNames}
+use Rattle.pc_file.specs.Catalogue.{Indexes}
 use Rattle.pc_rules.specs.Nameable.{Nameable}
 use Rattle.pc_rules.specs.RuleText.{IsRuleText}
 use Rattle.pc_rules.proofs.PrintedRules.{Shown, every_rule_stands}
@@ -18,7 +18,7 @@ use Rattle.pc_rules.proofs.Positions.{the_ok}
 use Rattle.pc_rules.proofs.RuleRead.{rule_of-only}
 use Rattle.pc_rules.proofs.PrintedOnce.{spelled_once}
 
-module _ (names : Catalogue) (variables : List Variable) (holds : HoldsNames names variables) (are : Nameable variables) (rule : Rule) (is : is_rule variables rule ≡ true) where
+module _ (names : Catalogue) (variables : List Variable) (holds : Indexes names variables) (are : Nameable variables) (rule : Rule) (is : is_rule variables rule ≡ true) where
   parts : (is_spelled variables rule ≡ true) × (is_shallow rule ≡ true)
   parts = and_parts (is_spelled variables rule) (is_shallow rule) is
 
@@ -56,7 +56,7 @@ pub printed_once : (variables : List Variable) → Nameable variables → (rule 
     printed_rule variables rule ≡ printed_rule variables other → rule ≡ other
 printed_once variables are rule other is is_too same =
     let names : Catalogue = record { variables = map (λ variable. variable.name) variables; values = map (λ variable. map (λ value. value.name) variable.values) variables } in
-    let holds : HoldsNames names variables = record { of_variables = refl; of_values = refl } in
+    let holds : Indexes names variables = record { variables_are = refl; values_are = refl } in
     let text = printed_rule variables other in
     let first : IsRuleText names text rule = subst (λ (t : List ℕ). IsRuleText names t rule) same (printed_rule_spells names variables holds are rule is) in
     let second : IsRuleText names text other = printed_rule_spells names variables holds are other is_too in

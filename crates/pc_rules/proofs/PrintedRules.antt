@@ -26,7 +26,8 @@ use Rattle.pc_rules.specs.Outcome.{Outcome, ◌>>=◌}
 use Rattle.pc_rules.specs.Counts.{count_of}
 use Rattle.pc_rules.specs.Token.{is_deep_after}
 use Rattle.pc_rules.specs.RuleFaults.{fault_step, test_of, has_fault}
-use Rattle.pc_rules.specs.Naming.{variable_at, value_at, values_at, rows_at, all_ok, named_step, rule_named, HoldsNames}
+use Rattle.pc_file.specs.Catalogue.{Indexes}
+use Rattle.pc_rules.specs.Naming.{variable_at, value_at, values_at, rows_at, all_ok, named_step, rule_named}
 use Rattle.pc_rules.specs.Reading.{are_as_long}
 use Rattle.pc_rules.specs.Nameable.{Nameable}
 use Rattle.pc_rules.specs.Grammar.{parted, alone_word, SpellsPhrase, SpellsPhrases}
@@ -42,7 +43,7 @@ use Rattle.pc_rules.proofs.PrintedDepth.{flat-token, flat-parentheses, flat-appe
 use Rattle.pc_rules.proofs.PrintedNames as printed
 use Rattle.pc_file.proofs.RuleInduction.{EachRule, every_rule}
 
-module _ (names : Catalogue) (variables : List Variable) (holds : HoldsNames names variables) (are : Nameable variables) where
+module _ (names : Catalogue) (variables : List Variable) (holds : Indexes names variables) (are : Nameable variables) where
   -- a text spells a rule in a place, and opens at most so many parentheses at once
   pub record Shown (place : ℕ) (text : List ℕ) (most : ℕ) (r : Rule) : Type 0 where
     pub tokens : List Token

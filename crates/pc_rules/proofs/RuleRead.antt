@@ -15,7 +15,8 @@ use Rattle.pc_rules.specs.Outcome.{Outcome, ◌>>=◌, ◌>>◌, unless, Gives}
 use Rattle.pc_rules.specs.Token.{tokens_of, is_too_deep}
 use Rattle.pc_rules.specs.Reading.{phrase_of}
 use Rattle.pc_rules.specs.RuleFaults.{has_fault, has_repeat}
-use Rattle.pc_rules.specs.Naming.{rule_named, HoldsNames}
+use Rattle.pc_file.specs.Catalogue.{Indexes}
+use Rattle.pc_rules.specs.Naming.{rule_named}
 use Rattle.pc_rules.specs.RuleText.{rule_of, IsRuleText}
 use Rattle.pc_rules.proofs.Positions.{bind_ok, the_ok}
 use Rattle.pc_rules.proofs.GrammarSound.{phrase_of-sound}
@@ -83,7 +84,7 @@ module _ (names : Catalogue) (text : List ℕ) (rule : Rule) where
       ∙ ap (λ o. o >>= last) is.named
       ∙ unless_none (has_repeat rule) kind.Repeat (Ok rule) is.once
 
-  pub rule_fits : (variables : List Variable) → HoldsNames names variables → IsRuleText names text rule → is_rule variables rule ≡ true
+  pub rule_fits : (variables : List Variable) → Indexes names variables → IsRuleText names text rule → is_rule variables rule ≡ true
   rule_fits variables holds is =
       and_from (is_spelled variables rule) (is_shallow rule) (spelled names variables holds is.spelled rule is.named is.numbers is.lengths is.once) (shallow_rule names is.spelled is.shallow rule is.named)
 

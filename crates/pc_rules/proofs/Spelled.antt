@@ -19,7 +19,8 @@ use Rattle.pc_rules.specs.Outcome.{Outcome, ◌>>=◌}
 use Rattle.pc_rules.specs.Counts.{count_of}
 use Rattle.pc_rules.specs.Reading.{are_as_long}
 use Rattle.pc_rules.specs.RuleFaults.{fault_step, test_of, has_fault, repeat_step, has_repeat}
-use Rattle.pc_rules.specs.Naming.{variable_at, value_at, variables_at, values_at, rows_at, all_ok, named_step, rule_named, HoldsNames}
+use Rattle.pc_file.specs.Catalogue.{Indexes}
+use Rattle.pc_rules.specs.Naming.{variable_at, value_at, variables_at, values_at, rows_at, all_ok, named_step, rule_named}
 use Rattle.pc_rules.specs.Grammar.{SpellsPhrase, SpellsPhrases}
 use Rattle.pc_rules.specs.Grammar as grammar
 use Rattle.pc_rules.proofs.CountLemmas.{count_of-small}
@@ -33,7 +34,7 @@ a_count : (found : Option ℕ) → not (is_some found) ≡ false → found ≡ S
 a_count None e = absurd cc
 a_count (Some n) e = refl
 
-module _ (names : Catalogue) (variables : List Variable) (holds : HoldsNames names variables) where
+module _ (names : Catalogue) (variables : List Variable) (holds : Indexes names variables) where
   abbrev outcome : Type 0
   outcome = Outcome Rule
 

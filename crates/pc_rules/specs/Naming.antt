@@ -79,8 +79,3 @@ named_step names (Table variables rows) = do
 
 abbrev pub rule_named : Catalogue → Phrase → Outcome Rule
 rule_named names = fold-Phrase (Outcome Rule) (named_step names)
-
--- the catalogue has the names of these variables and of their values
-pub record HoldsNames (names : Catalogue) (variables : List Variable) : Type 0 where
-  pub of_variables : names.variables ≡ map (λ variable. variable.name) variables
-  pub of_values : names.values ≡ map (λ variable. map (λ value. value.name) variable.values) variables

@@ -1,6 +1,7 @@
 -- The phrase that tokens say, read from left to right.
-use Rattle.std.specs.Prelude.{ℕ, zero, suc, Bool, ◌==◌, if◌then◌else◌, List, [], ◌∷◌, length, codes, Ok, Err}
+use Rattle.std.specs.Prelude.{ℕ, zero, suc, ◌+◌, Bool, ◌==◌, if◌then◌else◌, List, [], ◌∷◌, length, codes, Ok, Err}
 use Rattle.std.specs.List.{list_all}
+use Rattle.pc_file.specs.declared.sizes.TheConstants.{MOST_OPEN}
 use Rattle.pc_names.specs.Spelling.{same_spelling}
 use Rattle.pc_file.specs.Limits.{is_reserved}
 use Rattle.pc_rules.specs.declared.kind.Kind.TheVariants as kind
@@ -141,4 +142,4 @@ only (Ok found) = alone found.0 found.1
 only (Err fault) = Err fault
 
 unfoldable pub phrase_of : List Token → Outcome Phrase
-phrase_of tokens = only (rule_at 65 tokens)
+phrase_of tokens = only (rule_at (MOST_OPEN + 1) tokens)

@@ -1,6 +1,7 @@
 -- What may be wrong with a rule that the grammar has.
 use Rattle.std.specs.Prelude.{ℕ, Bool, false, not, ◌||◌, ◌==◌, nat_lt, is_some, List, length}
 use Rattle.std.specs.List.{list_any}
+use Rattle.pc_file.specs.declared.sizes.TheConstants.{MOST_MEMBERS}
 use Rattle.pc_base.specs.Distinct.{all_differ}
 use Rattle.pc_file.specs.declared.rule.Rule.{Rule}
 use Rattle.pc_file.specs.declared.rule.Rule.TheOpen as rule
@@ -25,10 +26,10 @@ fault_step test (Same variable other) = false
 fault_step test (AtMost most phrases) = test most (length phrases) || list_any (λ fault. fault) phrases
 fault_step test (Table variables rows) = false
 
--- the number is no canonical one from 0 to 64, or there are more than 64 members
+-- the number is no canonical one, or greater than the most members; or there are more members than that
 abbrev pub test_of : AtMostFault → List ℕ → ℕ → Bool
 test_of Number most count = not (is_some (count_of most))
-test_of Length most count = nat_lt 64 count
+test_of Length most count = nat_lt MOST_MEMBERS count
 
 -- some `atmost` has the fault
 abbrev pub has_fault : AtMostFault → Phrase → Bool

@@ -1,6 +1,7 @@
 -- How the bytes of a rule are cut into tokens.
 use Rattle.std.specs.Prelude.{ℕ, zero, suc, ◌+◌, ◌-◌, ◌==◌, nat_lt, Bool, false, ◌||◌, if◌then◌else◌, List, [], ◌∷◌, length, slice_index, codes, Option, Some, None, Ok, Err}
 use Rattle.std.specs.List.{take_while}
+use Rattle.pc_file.specs.declared.sizes.TheConstants.{MOST_OPEN}
 use Rattle.pc_names.specs.Name.{is_name_byte}
 use Rattle.pc_rules.specs.declared.kind.Kind.TheVariants as kind
 use Rattle.pc_rules.specs.declared.token.Sign.{Sign}
@@ -77,4 +78,4 @@ is_deep_after limit opened closed (token ∷ tokens) =
     nat_lt (closed_now + limit) opened_now || is_deep_after limit opened_now closed_now tokens
 
 unfoldable pub is_too_deep : List Token → Bool
-is_too_deep = is_deep_after 64 0 0
+is_too_deep = is_deep_after MOST_OPEN 0 0

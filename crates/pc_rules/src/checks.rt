@@ -7,26 +7,23 @@ ghost use Rattle.pc_rules.specs.RuleFaults as spec;
 use crate::count::count_of;
 use crate::phrase::Phrase;
 use pc_base::all_differ;
-use pc_file::Rule;
+use pc_file::{MOST_MEMBERS, Rule};
 
 /// A fault of an `atmost`.
 #[derive(Clone, Copy, Debug)]
 pub enum AtMostFault {
-    /// The number isn't canonical or not 0 to 64.
+    /// The number isn't canonical, or greater than the most members.
     Number,
-    /// There are more than 64 members.
+    /// There are too many members.
     Length,
 }
-
-/// The most members.
-const LONGEST: usize = 64;
 
 fn stands(fault: AtMostFault, most: &[u8], count: usize) -> bool
     ensures { result ≡ spec.test_of fault most.now count }
 {
     match fault {
         AtMostFault::Number => count_of(most).is_none(),
-        AtMostFault::Length => count > LONGEST,
+        AtMostFault::Length => count > MOST_MEMBERS,
     }
 }
 

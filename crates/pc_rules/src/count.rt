@@ -3,11 +3,10 @@
 ghost use Rattle.std.specs.Prelude.{◌≡◌};
 ghost use Rattle.pc_rules.specs.Counts as spec;
 
+use pc_file::MOST_MEMBERS;
 use pc_names::read_int;
 
-const LARGEST: i64 = 64;
-
-/// The number from 0 to 64 that a word spells in canonical decimal.
+/// The number that a word spells in canonical decimal, where it is from 0 to the most members of an `atmost`.
 pub fn count_of(word: &[u8]) -> Option<u32>
     ensures { result ≡ spec.count_of word.now }
 {
@@ -20,7 +19,7 @@ pub fn count_of(word: &[u8]) -> Option<u32>
 fn small_number(number: i64) -> Option<u32>
     ensures { result ≡ spec.small_number number }
 {
-    if 0 <= number && number <= LARGEST {
+    if 0 <= number && number <= MOST_MEMBERS as i64 {
         Some(number as u32)
     } else {
         None

@@ -11,13 +11,13 @@ use crate::fault::{RuleFault, refused};
 use crate::forms::{comparison, same, table};
 use crate::phrase::{Chain, Phrase};
 use crate::token::{Sign, Token, Word};
-use pc_file::is_reserved;
+use pc_file::{MOST_OPEN, is_reserved};
 use pc_names::same_word;
 use sqlite_items::{Boxed, Items};
 use std::alloc::Global;
 
 /// One more than the number of parentheses that may be open at once.
-const DEPTH: usize = 65;
+const DEPTH: usize = MOST_OPEN as usize + 1;
 
 /// The phrase that all the tokens say.
 #[tactic(auto, unfolding(crate::specs::Reading::phrase_of))]

@@ -10,7 +10,7 @@ mod fault;
 mod forms;
 mod grammar;
 mod kind;
-mod laws;
+pub mod laws;
 mod lists;
 mod naming;
 mod phrase;
@@ -20,6 +20,5 @@ mod writer;
 
 pub use fault::RuleFault;
 pub use kind::Kind;
-pub use laws::{printed_rule_spells_rule, tokens_tell_phrase};
 pub use rule_text::read_rule;
 pub use writer::push_rule;

@@ -5,7 +5,7 @@ ghost use Rattle.pc_file.specs.declared.rule.Rule.{Rule};
 ghost use Rattle.pc_file.specs.declared.variable.Variable.{Variable};
 ghost use Rattle.pc_file.specs.Limits.{is_rule};
 ghost use Rattle.pc_rules.specs.Outcome.{Gives};
-ghost use Rattle.pc_rules.specs.Naming.{HoldsNames};
+ghost use Rattle.pc_file.specs.Catalogue.{Indexes};
 ghost use Rattle.pc_rules.specs.RuleText as spec;
 ghost use Rattle.pc_rules.specs.RuleText.{IsRuleText};
 
@@ -27,7 +27,7 @@ pub fn read_rule(alloc: Global, names: &Catalogue, text: &[u8]) -> Result<Rule, 
     // Which fault it is.
     ensures exact { Gives (λ rule. rule) result (spec.rule_of names.now text.now) }
     // The rule keeps the limits of a file of these variables.
-    ensures fits { (variables : List Variable) → HoldsNames names.now variables → IfOk result (λ rule. is_rule variables rule ≡ true) }
+    ensures fits { (variables : List Variable) → Indexes names.now variables → IfOk result (λ rule. is_rule variables rule ≡ true) }
 {
     first_fault_or_rule(alloc, names, text)
 }

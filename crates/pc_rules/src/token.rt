@@ -9,11 +9,9 @@ ghost use Rattle.pc_rules.specs.Token as spec;
 use crate::fault::RuleFault;
 use crate::kind::Kind;
 use pc_base::Sequence;
+use pc_file::MOST_OPEN;
 use std::alloc::Global;
 use std::marker::Model;
-
-/// How many parentheses may be open at once.
-const DEEPEST: usize = 64;
 
 /// A mark that is no word.
 #[derive(Clone, Copy, Debug, PartialEq, Eq)]
@@ -180,7 +178,7 @@ fn one_if_closed(token: &Token<'_>) -> usize
     }
 }
 
-/// Whether at some token the opening parentheses so far are more than 64 more than the closing ones.
+/// Whether at some token the opening parentheses so far are more than `MOST_OPEN` more than the closing ones.
 #[tactic(auto, unfolding(crate::specs::Token::is_too_deep))]
 pub fn is_too_deep(tokens: &[Token<'_>]) -> bool
     ensures { result ≡ spec.is_too_deep tokens.now }
@@ -190,7 +188,7 @@ pub fn is_too_deep(tokens: &[Token<'_>]) -> bool
     for token in tokens {
         opened += one_if_open(token);
         closed += one_if_closed(token);
-        if opened.saturating_sub(closed) > DEEPEST {
+        if opened.saturating_sub(closed) > MOST_OPEN as usize {
             return true;
         }
     }

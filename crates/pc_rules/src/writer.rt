@@ -1,19 +1,35 @@
 //! The printed form of a rule.
 
-ghost use Rattle.std.specs.Prelude.{◌≡◌, ◌++◌, codes, decimal, OnOk};
+ghost use Rattle.std.specs.Prelude.{◌≡◌, ◌++◌, codes, decimal, OnOk, OnErr};
 ghost use Rattle.std.specs.List.{flat_map, join_by, zip};
 ghost use Rattle.pc_file.specs.declared.variable.Variable.{Variable};
 ghost use Rattle.pc_file.specs.declared.rule.Rule.TheOpen.{OneOf, Same, Table};
+ghost use Rattle.pc_file.specs.Grown.{HasGrown};
 ghost use Rattle.pc_file.specs.PrintedRule.{printed_variable, printed_value, printed_row, text_of, printed_in_place, printed_rule};
 
 use pc_base::{NoMemory, Sequence, Text};
 use pc_file::{Rule, Variable, strength};
 
 /// Puts the printed form of a rule at the end of a text, with the names of the variables and values that it is of.
-/// Want of memory may leave a part of it in the text.
-#[cycle(writing)]
+/// Want of memory leaves the text as it was.
 pub fn push_rule(text: &mut Text, variables: &[Variable], rule: &Rule) -> Result<(), NoMemory>
-    ensures { OnOk result (text.new ≡ text.old ++ printed_rule variables.now rule.now) }
+    ensures ok { OnOk result (text.new ≡ text.old ++ printed_rule variables.now rule.now) }
+    ensures err { OnErr result (text.new ≡ text.old) }
+{
+    let before = text.len();
+    let done = push_form(text, variables, rule);
+    if done.is_err() {
+        text.truncate(before);
+    }
+    done
+}
+
+/// The same, which may leave a part of the rule in the text where memory is wanted.
+#[cycle(writing)]
+#[tactic(auto, using(pc_file::proofs::GrownLemmas::grown_same, pc_file::proofs::GrownLemmas::grown_on))]
+fn push_form(text: &mut Text, variables: &[Variable], rule: &Rule) -> Result<(), NoMemory>
+    ensures ok { OnOk result (text.new ≡ text.old ++ printed_rule variables.now rule.now) }
+    ensures err { OnErr result (HasGrown text.old text.new) }
 {
     match rule {
         Rule::Is { variable, value } => push_comparison(text, variables, *variable, b"=", *value),
@@ -47,24 +63,27 @@ pub fn push_rule(text: &mut Text, variables: &[Variable], rule: &Rule) -> Result
 
 /// The rule in a place that asks for a strength.
 #[cycle(writing)]
+#[tactic(auto, using(pc_file::proofs::GrownLemmas::grown_same, pc_file::proofs::GrownLemmas::grown_on))]
 fn push_in_place(
     text: &mut Text,
     variables: &[Variable],
     asked: u8,
     rule: &Rule,
 ) -> Result<(), NoMemory>
-    ensures { OnOk result (text.new ≡ text.old ++ printed_in_place asked variables.now rule.now) }
+    ensures ok { OnOk result (text.new ≡ text.old ++ printed_in_place asked variables.now rule.now) }
+    ensures err { OnErr result (HasGrown text.old text.new) }
 {
     if strength(rule) >= asked {
-        return push_rule(text, variables, rule);
+        return push_form(text, variables, rule);
     }
     text.extend_from_slice(b"(")?;
-    push_rule(text, variables, rule)?;
+    push_form(text, variables, rule)?;
     text.extend_from_slice(b")")
 }
 
 /// Members in places of one kind, with something between them.
 #[cycle(writing)]
+#[tactic(auto, using(pc_file::proofs::GrownLemmas::grown_same, pc_file::proofs::GrownLemmas::grown_on))]
 fn push_members(
     text: &mut Text,
     variables: &[Variable],
@@ -72,7 +91,8 @@ fn push_members(
     between: &[u8],
     members: &[Rule],
 ) -> Result<(), NoMemory>
-    ensures { OnOk result (text.new ≡ text.old ++ join_by (printed_in_place asked variables.now) between.now members.now) }
+    ensures ok { OnOk result (text.new ≡ text.old ++ join_by (printed_in_place asked variables.now) between.now members.now) }
+    ensures err { OnErr result (HasGrown text.old text.new) }
 {
     let Some((first, others)) = members.split_first() else {
         return Ok(());
@@ -86,14 +106,16 @@ fn push_members(
 }
 
 #[cycle(writing)]
+#[tactic(auto, using(pc_file::proofs::GrownLemmas::grown_same, pc_file::proofs::GrownLemmas::grown_on))]
 fn push_at_most(
     text: &mut Text,
     variables: &[Variable],
     most: u32,
     members: &[Rule],
 ) -> Result<(), NoMemory>
-    ensures { OnOk result (text.new ≡ text.old
+    ensures ok { OnOk result (text.new ≡ text.old
         ++ (codes "atmost " ++ decimal most ++ codes " (" ++ join_by (printed_in_place 0 variables.now) (codes ", ") members.now ++ codes ")")) }
+    ensures err { OnErr result (HasGrown text.old text.new) }
 {
     text.extend_from_slice(b"atmost ")?;
     text.push_unsigned(u64::from(most))?;
@@ -102,6 +124,7 @@ fn push_at_most(
     text.extend_from_slice(b")")
 }
 
+#[tactic(auto, using(pc_file::proofs::GrownLemmas::grown_same, pc_file::proofs::GrownLemmas::grown_on))]
 fn push_comparison(
     text: &mut Text,
     variables: &[Variable],
@@ -109,20 +132,23 @@ fn push_comparison(
     sign: &[u8],
     value: u32,
 ) -> Result<(), NoMemory>
-    ensures { OnOk result (text.new ≡ text.old ++ (printed_variable variables.now variable ++ sign.now ++ printed_value variables.now variable value)) }
+    ensures ok { OnOk result (text.new ≡ text.old ++ (printed_variable variables.now variable ++ sign.now ++ printed_value variables.now variable value)) }
+    ensures err { OnErr result (HasGrown text.old text.new) }
 {
     push_variable(text, variables, variable)?;
     text.extend_from_slice(sign)?;
     push_value(text, variables, variable, value)
 }
 
+#[tactic(auto, using(pc_file::proofs::GrownLemmas::grown_same, pc_file::proofs::GrownLemmas::grown_on))]
 fn push_one_of(
     text: &mut Text,
     variables: &[Variable],
     variable: u32,
     values: &[u32],
 ) -> Result<(), NoMemory>
-    ensures { OnOk result (text.new ≡ text.old ++ text_of variables.now (OneOf variable values.now)) }
+    ensures ok { OnOk result (text.new ≡ text.old ++ text_of variables.now (OneOf variable values.now)) }
+    ensures err { OnErr result (HasGrown text.old text.new) }
 {
     push_variable(text, variables, variable)?;
     text.extend_from_slice(b" in {")?;
@@ -130,13 +156,15 @@ fn push_one_of(
     text.extend_from_slice(b"}")
 }
 
+#[tactic(auto, using(pc_file::proofs::GrownLemmas::grown_same, pc_file::proofs::GrownLemmas::grown_on))]
 fn push_same(
     text: &mut Text,
     variables: &[Variable],
     first: u32,
     second: u32,
 ) -> Result<(), NoMemory>
-    ensures { OnOk result (text.new ≡ text.old ++ text_of variables.now (Same first second)) }
+    ensures ok { OnOk result (text.new ≡ text.old ++ text_of variables.now (Same first second)) }
+    ensures err { OnErr result (HasGrown text.old text.new) }
 {
     text.extend_from_slice(b"same(")?;
     push_variable(text, variables, first)?;
@@ -145,13 +173,15 @@ fn push_same(
     text.extend_from_slice(b")")
 }
 
+#[tactic(auto, using(pc_file::proofs::GrownLemmas::grown_same, pc_file::proofs::GrownLemmas::grown_on))]
 fn push_table(
     text: &mut Text,
     variables: &[Variable],
     these: &[u32],
     rows: &[Sequence<u32>],
 ) -> Result<(), NoMemory>
-    ensures { OnOk result (text.new ≡ text.old ++ text_of variables.now (Table these.now rows.now)) }
+    ensures ok { OnOk result (text.new ≡ text.old ++ text_of variables.now (Table these.now rows.now)) }
+    ensures err { OnErr result (HasGrown text.old text.new) }
 {
     text.extend_from_slice(b"table (")?;
     push_variables(text, variables, these)?;
@@ -161,8 +191,10 @@ fn push_table(
 }
 
 /// The names of variables, with a comma and a space between them.
+#[tactic(auto, using(pc_file::proofs::GrownLemmas::grown_same, pc_file::proofs::GrownLemmas::grown_on))]
 fn push_variables(text: &mut Text, variables: &[Variable], these: &[u32]) -> Result<(), NoMemory>
-    ensures { OnOk result (text.new ≡ text.old ++ join_by (printed_variable variables.now) (codes ", ") these.now) }
+    ensures ok { OnOk result (text.new ≡ text.old ++ join_by (printed_variable variables.now) (codes ", ") these.now) }
+    ensures err { OnErr result (HasGrown text.old text.new) }
 {
     let Some((first, others)) = these.split_first() else {
         return Ok(());
@@ -176,13 +208,15 @@ fn push_variables(text: &mut Text, variables: &[Variable], these: &[u32]) -> Res
 }
 
 /// The names of values of one variable, with a comma and a space between them.
+#[tactic(auto, using(pc_file::proofs::GrownLemmas::grown_same, pc_file::proofs::GrownLemmas::grown_on))]
 fn push_values(
     text: &mut Text,
     variables: &[Variable],
     variable: u32,
     values: &[u32],
 ) -> Result<(), NoMemory>
-    ensures { OnOk result (text.new ≡ text.old ++ join_by (printed_value variables.now variable) (codes ", ") values.now) }
+    ensures ok { OnOk result (text.new ≡ text.old ++ join_by (printed_value variables.now variable) (codes ", ") values.now) }
+    ensures err { OnErr result (HasGrown text.old text.new) }
 {
     let Some((first, others)) = values.split_first() else {
         return Ok(());
@@ -196,13 +230,15 @@ fn push_values(
 }
 
 /// The rows of a table, with a comma and a space between them.
+#[tactic(auto, using(pc_file::proofs::GrownLemmas::grown_same, pc_file::proofs::GrownLemmas::grown_on))]
 fn push_rows(
     text: &mut Text,
     variables: &[Variable],
     these: &[u32],
     rows: &[Sequence<u32>],
 ) -> Result<(), NoMemory>
-    ensures { OnOk result (text.new ≡ text.old ++ join_by (printed_row variables.now these.now) (codes ", ") rows.now) }
+    ensures ok { OnOk result (text.new ≡ text.old ++ join_by (printed_row variables.now these.now) (codes ", ") rows.now) }
+    ensures err { OnErr result (HasGrown text.old text.new) }
 {
     let Some((first, others)) = rows.split_first() else {
         return Ok(());
@@ -216,13 +252,15 @@ fn push_rows(
 }
 
 /// A row of a table: the names of values, each of its own variable, with a space between them.
+#[tactic(auto, using(pc_file::proofs::GrownLemmas::grown_same, pc_file::proofs::GrownLemmas::grown_on))]
 fn push_row(
     text: &mut Text,
     variables: &[Variable],
     these: &[u32],
     row: &[u32],
 ) -> Result<(), NoMemory>
-    ensures { OnOk result (text.new ≡ text.old ++ printed_row variables.now these.now row.now) }
+    ensures ok { OnOk result (text.new ≡ text.old ++ printed_row variables.now these.now row.now) }
+    ensures err { OnErr result (HasGrown text.old text.new) }
 {
     let Some((variable, these)) = these.split_first() else {
         return Ok(());
@@ -235,13 +273,15 @@ fn push_row(
 }
 
 /// The values of a row after the first, each after a space.
+#[tactic(auto, using(pc_file::proofs::GrownLemmas::grown_same, pc_file::proofs::GrownLemmas::grown_on))]
 fn push_more_of_row(
     text: &mut Text,
     variables: &[Variable],
     these: &[u32],
     row: &[u32],
 ) -> Result<(), NoMemory>
-    ensures { OnOk result (text.new ≡ text.old ++ flat_map (λ p. codes " " ++ printed_value variables.now p.0 p.1) (zip these.now row.now)) }
+    ensures ok { OnOk result (text.new ≡ text.old ++ flat_map (λ p. codes " " ++ printed_value variables.now p.0 p.1) (zip these.now row.now)) }
+    ensures err { OnErr result (HasGrown text.old text.new) }
 {
     for (variable, value) in these.iter().zip(row) {
         text.push(b' ')?;
@@ -251,8 +291,10 @@ fn push_more_of_row(
 }
 
 /// The name of a variable, by its position.
+#[tactic(auto, using(pc_file::proofs::GrownLemmas::grown_same, pc_file::proofs::GrownLemmas::grown_on))]
 fn push_variable(text: &mut Text, variables: &[Variable], variable: u32) -> Result<(), NoMemory>
-    ensures { OnOk result (text.new ≡ text.old ++ printed_variable variables.now variable) }
+    ensures ok { OnOk result (text.new ≡ text.old ++ printed_variable variables.now variable) }
+    ensures err { OnErr result (HasGrown text.old text.new) }
 {
     match variables.get(variable as usize) {
         Some(variable) => text.extend_from_slice(variable.name.as_bytes()),
@@ -261,13 +303,15 @@ fn push_variable(text: &mut Text, variables: &[Variable], variable: u32) -> Resu
 }
 
 /// The name of a value of a variable, by their positions.
+#[tactic(auto, using(pc_file::proofs::GrownLemmas::grown_same, pc_file::proofs::GrownLemmas::grown_on))]
 fn push_value(
     text: &mut Text,
     variables: &[Variable],
     variable: u32,
     value: u32,
 ) -> Result<(), NoMemory>
-    ensures { OnOk result (text.new ≡ text.old ++ printed_value variables.now variable value) }
+    ensures ok { OnOk result (text.new ≡ text.old ++ printed_value variables.now variable value) }
+    ensures err { OnErr result (HasGrown text.old text.new) }
 {
     let Some(variable) = variables.get(variable as usize) else {
         return Ok(());

@@ -17,14 +17,15 @@ use Rattle.pc_text.proofs.SpelledHasNoFault.{spelled_has_no_fault}
 use Rattle.pc_calls.specs.declared.call.Call.TheVariants.{Enter, Open, Publish, Leave}
 use Rattle.pc_calls.specs.declared.entry.Entry.{Entry}
 use Rattle.pc_calls.specs.declared.outcome.Outcome.TheVariants.{NoProduct, Stale, ShelvesFull}
-use Rattle.pc_calls.specs.Answer.{Answer, ◌>>◌, refused_where}
+use Rattle.pc_calls.specs.Decision.{Decision, ◌>>◌, refused_where}
 use Rattle.pc_calls.specs.CommandLine.{command_of, arguments, command_line}
 use Rattle.pc_calls.specs.CommandReader.{word_of_kind, end}
 use Rattle.pc_calls.specs.Heads.{head_by}
 use Rattle.pc_calls.specs.History.{after_entries, entry_of}
 use Rattle.pc_calls.specs.LineWords.{words_at}
 use Rattle.pc_calls.specs.State.{State, empty, current, live_versions}
-use Rattle.pc_calls.specs.Step.{after, given, most_live, state_of}
+use Rattle.pc_calls.specs.declared.limits.TheConstants.{MOST_LIVE}
+use Rattle.pc_calls.specs.Step.{after, step, state_of}
 use Rattle.pc_names.specs.Number.{int_of}
 use Rattle.pc_conn.specs.declared.body.Body.TheVariants.{File}
 use Rattle.pc_conn.specs.declared.item.Item.TheVariants as item
@@ -108,14 +109,14 @@ module _ (file : Contents) (some : products file ≡ bikes) where
   abbrev one_version : State
   one_version = record { versions = record { file = file; live = true } ∷ []; callers = one_caller.callers; sessions = [] }
 
-  offered : Bool → Answer State
+  offered : Bool → Decision State
   offered none = do
     refused_where none NoProduct
     refused_where (not (0 == current one_caller)) (Stale (current one_caller))
-    refused_where (nat_le most_live (live_versions one_caller)) ShelvesFull
+    refused_where (nat_le MOST_LIVE (live_versions one_caller)) ShelvesFull
     Ok one_version
 
-  published : given 1 (Publish 0 file) one_caller ≡ Ok one_version
+  published : step 1 (Publish 0 file) one_caller ≡ Ok one_version
   unfolding offered
   published = ap offered (ap (λ words. length words == 0) some)
 
@@ -125,7 +126,7 @@ module _ (file : Contents) (some : products file ≡ bikes) where
   said_last = ap (λ answer. said_in (commanded (state_of one_caller answer)) last_lines) published
 
   -- its entry, after the caller's enter
-  first_two : Answer State → List Entry
+  first_two : Decision State → List Entry
   first_two answer = entry_of empty 1 Enter ∷ record { caller = 1; call = Publish 0 file; head = head_by 1 (Publish 0 file) one_caller answer } ∷ []
 
   publish : Said

@@ -17,7 +17,7 @@ use Rattle.pc_conn.specs.Reading.{ReadsBody, GivesBody, IsStopped}
 use Rattle.pc_script.specs.declared.item.Awaited.{Awaited}
 use Rattle.pc_script.specs.declared.item.Heard.TheVariants as says
 use Rattle.pc_script.specs.declared.item.Said.{Said}
-use Rattle.pc_script.specs.Ends.{end_by, end_by_body}
+use Rattle.pc_script.specs.EndBy.{end_by, end_by_body}
 use Rattle.pc_script.specs.Heard.{heard, said_with}
 use Rattle.pc_script.specs.Script.{commanded, answers, said_text, said_after}
 use Rattle.pc_script.specs.Turns.{SaysNext, HearsNone, HearsTurn, Hears, turn_after}

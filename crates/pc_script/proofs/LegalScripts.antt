@@ -18,7 +18,7 @@ use Rattle.pc_script.specs.Heard.{has_left, may_speak, most_callers, said_with}
 use Rattle.pc_script.specs.Script.{Script, commanded, publishing, beginning, entered, line_after, said_after}
 use Rattle.pc_script.specs.ScriptHistory.{entering, entries_from, item_entries, leaving, said_entries, said_in, script_history, script_items}
 use Rattle.pc_script.proofs.ScriptTexts.{entering-state, said-state}
-use Rattle.pc_script.proofs.ScriptTurns.{IsNoEnter, line-turns, Speaks, state_at, Turns, Waits}
+use Rattle.pc_script.proofs.ScriptTurns.{IsSpoken, line-turns, Speaks, state_at, Turns, Waits}
 
 one-legal : (state : State) (caller : ℕ) (one : Call) → may_make state caller one ≡ true → IsLegalFrom state (entry_of state caller one ∷ [])
 unfolding IsLegalFrom
@@ -28,20 +28,20 @@ none-legal : (state : State) → IsLegalFrom state []
 unfolding IsLegalFrom
 none-legal state = tt
 
--- a caller that has entered and not left makes any call but an enter
-may-any : (state : State) (caller : ℕ) (one : Call) → IsNoEnter one → is_present state caller ≡ true → may_make state caller one ≡ true
+-- a caller that has entered and not left makes any call that is spoken
+may-any : (state : State) (caller : ℕ) (one : Call) → IsSpoken one → is_present state caller ≡ true → may_make state caller one ≡ true
 may-any state caller call.Enter never present = absurd never
 may-any state caller call.Open calls present = present
 may-any state caller (call.Show session) calls present = present
 may-any state caller (call.Choose session variable value) calls present = present
 may-any state caller (call.Retract session variable) calls present = present
-may-any state caller (call.Bound session cost most) calls present = present
-may-any state caller (call.Unbound session cost) calls present = present
-may-any state caller (call.Rebase session version dropping) calls present = present
+may-any state caller (call.Bound session cost most) never present = absurd never
+may-any state caller (call.Unbound session cost) never present = absurd never
+may-any state caller (call.Rebase session version dropping) never present = absurd never
 may-any state caller (call.Close session) calls present = present
 may-any state caller (call.Publish base file) calls present = present
-may-any state caller (call.Reclaim version) calls present = present
-may-any state caller call.Versions calls present = present
+may-any state caller (call.Reclaim version) never present = absurd never
+may-any state caller call.Versions never present = absurd never
 may-any state caller call.Leave calls present = present
 
 -- what has a number within a list

@@ -5,11 +5,11 @@ use Rattle.pc_calls.specs.declared.call.Call.TheVariants as call
 use Rattle.pc_calls.specs.declared.line_call.LineCall.TheVariants.{Whole}
 use Rattle.pc_calls.specs.CallWords.{spellings, call_words, IsSayable}
 use Rattle.pc_calls.specs.CommandLine.{command_of}
-use Rattle.pc_calls.specs.LineWords.{Word}
+use Rattle.pc_calls.specs.LineWords.{LineWord}
 use Rattle.pc_script.specs.Heard.{is_later}
 use Rattle.pc_script.specs.Made.{IsMadeCall, is_later_first}
 
-not-later : (words : List Word) (first : List ℕ) (rest : List (List ℕ)) → spellings words ≡ first ∷ rest → is_later (command_of first) ≡ true → is_later_first words ≡ false → ⊥
+not-later : (words : List LineWord) (first : List ℕ) (rest : List (List ℕ)) → spellings words ≡ first ∷ rest → is_later (command_of first) ≡ true → is_later_first words ≡ false → ⊥
 not-later [] first rest e later known = absurd cc
 not-later (word ∷ words) first rest e later known =
     let same : word.bytes ≡ first = cc in
@@ -36,7 +36,7 @@ versions-later : is_later (command_of (codes "versions")) ≡ true
 unfolding command_of
 versions-later = refl
 
-pub made_by : (said : Call) (words : List Word) → IsSayable (Whole said) → spellings words ≡ call_words (Whole said) → is_later_first words ≡ false → IsMadeCall said
+pub made_by : (said : Call) (words : List LineWord) → IsSayable (Whole said) → spellings words ≡ call_words (Whole said) → is_later_first words ≡ false → IsMadeCall said
 made_by call.Enter words sayable e known = sayable
 made_by call.Open words sayable e known = tt
 made_by (call.Show session) words sayable e known = tt

@@ -6,7 +6,7 @@ use Rattle.std.proofs.lemmas.Bool.Decides.{nat_tests}
 use Rattle.std.proofs.lemmas.List.Quantifiers.{position-Some}
 use Rattle.std.proofs.lemmas.List.Sums.{prefix_len_passes}
 use Rattle.pc_file.specs.Limits.{Contents}
-use Rattle.pc_calls.specs.Answer.{Answer}
+use Rattle.pc_calls.specs.Decision.{Decision}
 use Rattle.pc_calls.specs.Selection.{Selection}
 use Rattle.pc_session.specs.declared.answer.Answer as declared
 use Rattle.pc_session.specs.Visit.{Visit, answer_to, visit_after}
@@ -26,7 +26,7 @@ module _ (number : ℕ) where
   find-nowhere (visit ∷ visits) nowhere =
       ap (λ (b : Bool). cond b (Some visit) (find (has_number number) visits)) (nowhere 0 visit (omega arith)) ∙ find-nowhere visits (λ k d inside. nowhere (suc k) d (omega (arith, inside)))
 
-  after-nowhere : (ask : Contents → Selection → Answer Selection) (visits : List Visit) → ((k : ℕ) (d : Visit) → k < length visits → has_number number (slice_index_or visits k d) ≡ false) → visits_after number ask visits ≡ visits
+  after-nowhere : (ask : Contents → Selection → Decision Selection) (visits : List Visit) → ((k : ℕ) (d : Visit) → k < length visits → has_number number (slice_index_or visits k d) ≡ false) → visits_after number ask visits ≡ visits
   after-nowhere ask [] nowhere = refl
   after-nowhere ask (visit ∷ visits) nowhere =
       ap (λ (b : Bool). cond b (visit_after visit (ask visit.file visit.selection) ∷ visits) (visit ∷ visits_after number ask visits)) (nowhere 0 visit (omega arith))
@@ -47,7 +47,7 @@ module _ (number : ℕ) where
       ap (λ (b : Bool). cond b (Some visit) (find (has_number number) visits)) (before 0 (omega arith))
       ∙ find-at visits place d (omega (arith, inside)) is (λ k lower. before (suc k) (omega (arith, lower)))
 
-  after-at : (ask : Contents → Selection → Answer Selection) (visits : List Visit) (place : ℕ) (d : Visit) → place < length visits → has_number number (slice_index_or visits place d) ≡ true → ((k : ℕ) → k < place → has_number number (slice_index_or visits k d) ≡ false)
+  after-at : (ask : Contents → Selection → Decision Selection) (visits : List Visit) (place : ℕ) (d : Visit) → place < length visits → has_number number (slice_index_or visits place d) ≡ true → ((k : ℕ) → k < place → has_number number (slice_index_or visits k d) ≡ false)
       → visits_after number ask visits ≡ slice_set visits place (visit_after (slice_index_or visits place d) (ask (slice_index_or visits place d).file (slice_index_or visits place d).selection))
   after-at ask [] place d inside is before = absurd (omega arith)
   after-at ask (visit ∷ visits) zero d inside is before = ap (λ (b : Bool). cond b (visit_after visit (ask visit.file visit.selection) ∷ visits) (visit ∷ visits_after number ask visits)) is
@@ -65,14 +65,14 @@ module _ (number : ℕ) where
 
 -- by what the search for the place told
 pub no_place : (number : ℕ) (visits : List Visit) → position (has_number number) visits ≡ None
-    → (find (has_number number) visits ≡ None) × ((ask : Contents → Selection → Answer Selection) → visits_after number ask visits ≡ visits) × (without_number number visits ≡ visits)
+    → (find (has_number number) visits ≡ None) × ((ask : Contents → Selection → Decision Selection) → visits_after number ask visits ≡ visits) × (without_number number visits ≡ visits)
 no_place number visits none =
     let nowhere = none-passes (has_number number) visits none in
     (find-nowhere number visits nowhere, λ ask. after-nowhere number ask visits nowhere, without-nowhere number visits nowhere)
 
 pub at_place : (number : ℕ) (visits : List Visit) (place : ℕ) (visit : Visit) → position (has_number number) visits ≡ Some place → slice_index_or visits place visit ≡ visit
     → (find (has_number number) visits ≡ Some visit)
-    × ((ask : Contents → Selection → Answer Selection) → visits_after number ask visits ≡ slice_set visits place (visit_after visit (ask visit.file visit.selection)))
+    × ((ask : Contents → Selection → Decision Selection) → visits_after number ask visits ≡ slice_set visits place (visit_after visit (ask visit.file visit.selection)))
     × (without_number number visits ≡ take place visits ++ drop (suc place) visits)
     × (visit.number ≡ number)
 at_place number visits place visit is same =
@@ -84,12 +84,12 @@ at_place number visits place visit is same =
     )
 
 -- the reply to what a session answered
-pub replied_is : (visit : Visit) (given : Answer Selection)
+pub replied_is : (visit : Visit) (given : Decision Selection)
     → record { head = plain_head (visit_after visit given).number (visit_after visit given).version (answer_to visit.file given).outcome; shown = shown_with (visit_after visit given).file (answer_to visit.file given).listing } ≡ visit_reply visit given
 replied_is visit (Ok selection) = refl
 replied_is visit (Err refusal) = refl
 
-pub session_reply : (number : ℕ) (ask : Contents → Selection → Answer Selection) (visits : List Visit) (visit later : Visit) (answer : declared.Answer)
+pub session_reply : (number : ℕ) (ask : Contents → Selection → Decision Selection) (visits : List Visit) (visit later : Visit) (answer : declared.Answer)
     → find (has_number number) visits ≡ Some visit → later ≡ visit_after visit (ask visit.file visit.selection) → answer ≡ answer_to visit.file (ask visit.file visit.selection)
     → record { head = plain_head later.number later.version answer.outcome; shown = shown_with later.file answer.listing } ≡ reply_among number ask visits
 session_reply number ask visits visit later answer found after is =

@@ -1,14 +1,13 @@
 -- What a line of a script says, is answered and leaves.
-use Rattle.std.proofs.Common.{◌≡◌, ℕ, ◌+◌, Bool, true, false, cond, if◌then◌else◌, List, [], ◌∷◌, ◌++◌, length, Option, Some, None, Result, Ok, Err, inl, inr, ◌⊎◌, refl, sym, subst}
+use Rattle.std.proofs.Common.{◌≡◌, ℕ, ◌+◌, Bool, true, false, cond, if◌then◌else◌, List, [], ◌∷◌, ◌++◌, length, Option, Some, None, Result, Ok, Err, inl, inr, ◌⊎◌, refl, sym, subst, ap, ◌∙◌}
 use Rattle.pc_calls.specs.declared.bad_column.BadColumn.{BadColumn}
 use Rattle.pc_calls.specs.declared.call.Call.{Call}
 use Rattle.pc_calls.specs.declared.call.Call.TheVariants as call
 use Rattle.pc_calls.specs.declared.line_call.LineCall.{LineCall}
 use Rattle.pc_calls.specs.declared.line_call.LineCall.TheVariants.{Whole, PublishHead}
-use Rattle.pc_calls.specs.CallWords.{IsSayable}
 use Rattle.pc_calls.specs.CommandLine.{command_of, line_call}
-use Rattle.pc_calls.specs.CommandReader.{unsigned_of}
-use Rattle.pc_calls.specs.LineWords.{Word, words_from, end_of}
+use Rattle.pc_names.specs.Number.{unsigned_of}
+use Rattle.pc_calls.specs.LineWords.{LineWord, words_from, end_of}
 use Rattle.pc_calls.specs.State.{State}
 use Rattle.pc_calls.proofs.WordsSaid.{Says, read_is_said}
 use Rattle.pc_conn.specs.declared.body.Body.{Body}
@@ -23,22 +22,29 @@ use Rattle.pc_script.specs.declared.item.Heard.{Heard}
 use Rattle.pc_script.specs.declared.item.Heard.TheVariants as says
 use Rattle.pc_script.specs.declared.item.Said.{Said}
 use Rattle.pc_script.specs.Heard.{bad_at, caller_of, heard, heard_after, heard_command, heard_from, is_later, may_speak, of_caller, only_if, said_with}
+use Rattle.pc_script.specs.Made.{IsMadeCall, is_later_first}
 use Rattle.pc_script.specs.Script.{Script, commanded, publishing, body_after, body_text, heard_text, is_whole, line_after, line_text, said_after, said_of, said_text, heard_after as script_after}
 use Rattle.pc_script.specs.ScriptHistory.{body_said, line_said, said_once}
+use Rattle.pc_script.proofs.MadeCalls.{made_by}
 
 -- the state of a script between two lines
 abbrev pub state_at : Script → State
 state_at (commanded state) = state
 state_at (publishing state awaited lines) = state
 
--- an enter is no item
-abbrev pub IsNoEnter : Call → Type 0
-IsNoEnter call.Enter = ⊥
-IsNoEnter other = Unit {0}
+-- an item is no enter, and has its row
+abbrev pub IsSpoken : Call → Type 0
+IsSpoken call.Enter = ⊥
+IsSpoken (call.Bound session cost most) = ⊥
+IsSpoken (call.Unbound session cost) = ⊥
+IsSpoken (call.Rebase session version dropping) = ⊥
+IsSpoken (call.Reclaim version) = ⊥
+IsSpoken call.Versions = ⊥
+IsSpoken other = Unit {0}
 
--- a call is one of a caller that may speak, and no enter
+-- a call is one of a caller that may speak
 abbrev pub Speaks : State → ℕ → Item → Type 0
-Speaks state caller (item.Call call) = (may_speak state caller ≡ true) × IsNoEnter call
+Speaks state caller (item.Call call) = (may_speak state caller ≡ true) × IsSpoken call
 Speaks state caller item = Unit {0}
 
 -- the caller of a publish that waits for its text may speak
@@ -72,42 +78,44 @@ body-turns state awaited lines may = by (is_whole awaited lines)
     by true = record { says = inr (said_of awaited lines, refl, refl, refl, published-speaks state awaited (body_of (text_of_lines lines)) may); waits = tt }
     by false = record { says = inl (refl, refl, refl); waits = may }
 
--- no line says an enter
-no-enter : (call : Call) → IsSayable (Whole call) → IsNoEnter call
-no-enter call.Enter sayable = sayable
-no-enter call.Open sayable = tt
-no-enter (call.Show session) sayable = tt
-no-enter (call.Choose session variable value) sayable = tt
-no-enter (call.Retract session variable) sayable = tt
-no-enter (call.Bound session cost most) sayable = tt
-no-enter (call.Unbound session cost) sayable = tt
-no-enter (call.Rebase session version dropping) sayable = tt
-no-enter (call.Close session) sayable = tt
-no-enter (call.Publish base file) sayable = tt
-no-enter (call.Reclaim version) sayable = tt
-no-enter call.Versions sayable = tt
-no-enter call.Leave sayable = tt
+-- a call that a script makes is spoken
+spoken : (call : Call) → IsMadeCall call → IsSpoken call
+spoken call.Enter made = made
+spoken call.Open made = tt
+spoken (call.Show session) made = tt
+spoken (call.Choose session variable value) made = tt
+spoken (call.Retract session variable) made = tt
+spoken (call.Bound session cost most) made = made
+spoken (call.Unbound session cost) made = made
+spoken (call.Rebase session version dropping) made = made
+spoken (call.Close session) made = tt
+spoken (call.Publish base file) made = tt
+spoken (call.Reclaim version) made = made
+spoken call.Versions made = made
+spoken call.Leave made = tt
 
 -- what is heard is of a caller that may speak
 abbrev HeardSpeaks : State → Heard → Type 0
 HeardSpeaks state (says.Said said) = Speaks state said.caller said.item
 HeardSpeaks state (says.Publish awaited) = may_speak state awaited.caller ≡ true
 
-words-speak : (state : State) (caller : ℕ) (line : List ℕ) (from : ℕ) → may_speak state caller ≡ true → HeardSpeaks state (of_caller caller (heard_words line from))
-words-speak state caller line from may = by (line_call line from) refl
+words-speak : (state : State) (caller : ℕ) (line : List ℕ) (from : ℕ) → is_later_first (words_from line from) ≡ false → may_speak state caller ≡ true → HeardSpeaks state (of_caller caller (heard_words line from))
+words-speak state caller line from known may = by (line_call line from) refl
   where
     by : (read : Result LineCall BadColumn) → line_call line from ≡ read → HeardSpeaks state (of_caller caller (heard_call (length line) read))
-    by (Ok (Whole call)) is = let said : Says line from (Whole call) = read_is_said line from (Ok (Whole call)) (sym is) in (may, no-enter call said.0)
+    by (Ok (Whole call)) is =
+        let said : Says line from (Whole call) = read_is_said line from (Ok (Whole call)) (sym is) in
+        (may, spoken call (made_by call (words_from line from) said.0 said.1 known))
     by (Ok (PublishHead base lines)) is = may
     by (Err bad) is = tt
 
-command-speaks : (state : State) (caller : ℕ) (line : List ℕ) (from : ℕ) (words : List Word) → may_speak state caller ≡ true → HeardSpeaks state (heard_command caller line from words)
-command-speaks state caller line from [] may = words-speak state caller line from may
-command-speaks state caller line from (word ∷ words) may = by (is_later (command_of word.bytes))
+command-speaks : (state : State) (caller : ℕ) (line : List ℕ) (from : ℕ) (words : List LineWord) → words_from line from ≡ words → may_speak state caller ≡ true → HeardSpeaks state (heard_command caller line from words)
+command-speaks state caller line from [] are may = words-speak state caller line from (ap is_later_first are) may
+command-speaks state caller line from (word ∷ words) are may = by (is_later (command_of word.bytes)) refl
   where
-    by : (later : Bool) → HeardSpeaks state (if later then bad_at caller (word.place + 1) else of_caller caller (heard_words line from))
-    by true = tt
-    by false = words-speak state caller line from may
+    by : (later : Bool) → is_later (command_of word.bytes) ≡ later → HeardSpeaks state (if later then bad_at caller (word.place + 1) else of_caller caller (heard_words line from))
+    by true is = tt
+    by false is = words-speak state caller line from (ap is_later_first are ∙ is) may
 
 named-may : (state : State) (named : Option ℕ) (caller : ℕ) → only_if (may_speak state) named ≡ Some caller → may_speak state caller ≡ true
 named-may state None caller e = absurd cc
@@ -124,13 +132,13 @@ caller-may : (state : State) (word : List ℕ) (caller : ℕ) → caller_of stat
 unfolding caller_of
 caller-may state word caller e = named-may state (unsigned_of word) caller e
 
-from-speaks : (state : State) (line : List ℕ) (words : List Word) → HeardSpeaks state (heard_from state line words)
+from-speaks : (state : State) (line : List ℕ) (words : List LineWord) → HeardSpeaks state (heard_from state line words)
 from-speaks state line [] = tt
 from-speaks state line (word ∷ words) = by (caller_of state word.bytes) refl
   where
     by : (caller : Option ℕ) → caller_of state word.bytes ≡ caller → HeardSpeaks state (heard_after caller line word)
     by None is = tt
-    by (Some caller) is = command-speaks state caller line (end_of word) (words_from line (end_of word)) (caller-may state word.bytes caller is)
+    by (Some caller) is = command-speaks state caller line (end_of word) (words_from line (end_of word)) refl (caller-may state word.bytes caller is)
 
 heard-speaks : (state : State) (line : List ℕ) → HeardSpeaks state (heard state line)
 unfolding heard

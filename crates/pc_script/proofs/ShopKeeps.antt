@@ -3,14 +3,14 @@ use Rattle.std.proofs.Common.{◌≡◌, ℕ, zero, suc, ◌+◌, ◌-◌, ◌<�
 use Rattle.std.specs.Prelude.{Result, IfOk, OnOk, OnErr}
 use Rattle.std.proofs.lemmas.List.Elements.{All-head, All-tail, All-nil, All-cons, All-append}
 use Rattle.pc_file.specs.Limits.{Contents}
-use Rattle.pc_calls.specs.Answer.{Answer}
+use Rattle.pc_calls.specs.Decision.{Decision}
 use Rattle.pc_calls.specs.Selection.{Selection, show}
 use Rattle.pc_calls.specs.State.{numbered}
 use Rattle.pc_session.specs.Visit.{Visit, visit_after}
 use Rattle.pc_script.specs.ShopState.{IsPinned, callers_by}
 use Rattle.pc_script.specs.Visits.{visits_after, without_number}
 
-kept-after : (P : Visit → Type 0) → ((visit : Visit) (result : Answer Selection) → P visit → P (visit_after visit result)) → (number : ℕ) (ask : Contents → Selection → Answer Selection) (visits : List Visit) → All P visits → All P (visits_after number ask visits)
+kept-after : (P : Visit → Type 0) → ((visit : Visit) (result : Decision Selection) → P visit → P (visit_after visit result)) → (number : ℕ) (ask : Contents → Selection → Decision Selection) (visits : List Visit) → All P visits → All P (visits_after number ask visits)
 kept-after P keeps number ask [] all = all
 kept-after P keeps number ask (visit ∷ visits) all =
     elim (visit.number == number) as (λ b. All P (cond b (visit_after visit (ask visit.file visit.selection) ∷ visits) (visit ∷ visits_after number ask visits))) [
@@ -18,18 +18,18 @@ kept-after P keeps number ask (visit ∷ visits) all =
       | false ↦ All-cons P visit (visits_after number ask visits) (All-head P visit visits all) (kept-after P keeps number ask visits (All-tail P visit visits all))
     ]
 
-pinned-visit : (files : List Contents) (visit : Visit) (result : Answer Selection) → IsPinned files visit → IsPinned files (visit_after visit result)
+pinned-visit : (files : List Contents) (visit : Visit) (result : Decision Selection) → IsPinned files visit → IsPinned files (visit_after visit result)
 pinned-visit files visit (Ok selection) pinned = pinned
 pinned-visit files visit (Err refusal) pinned = pinned
 
-low-visit : (opened : ℕ) (visit : Visit) (result : Answer Selection) → visit.number ≤ opened → (visit_after visit result).number ≤ opened
+low-visit : (opened : ℕ) (visit : Visit) (result : Decision Selection) → visit.number ≤ opened → (visit_after visit result).number ≤ opened
 low-visit opened visit (Ok selection) low = low
 low-visit opened visit (Err refusal) low = low
 
-pub pinned_after : (files : List Contents) (number : ℕ) (ask : Contents → Selection → Answer Selection) (visits : List Visit) → All (IsPinned files) visits → All (IsPinned files) (visits_after number ask visits)
+pub pinned_after : (files : List Contents) (number : ℕ) (ask : Contents → Selection → Decision Selection) (visits : List Visit) → All (IsPinned files) visits → All (IsPinned files) (visits_after number ask visits)
 pinned_after files number ask visits all = kept-after (IsPinned files) (pinned-visit files) number ask visits all
 
-pub low_after : (opened number : ℕ) (ask : Contents → Selection → Answer Selection) (visits : List Visit) → All (λ v. v.number ≤ opened) visits → All (λ v. v.number ≤ opened) (visits_after number ask visits)
+pub low_after : (opened number : ℕ) (ask : Contents → Selection → Decision Selection) (visits : List Visit) → All (λ v. v.number ≤ opened) visits → All (λ v. v.number ≤ opened) (visits_after number ask visits)
 low_after opened number ask visits all = kept-after (λ v. v.number ≤ opened) (low-visit opened) number ask visits all
 
 pub kept_without : (P : Visit → Type 0) (number : ℕ) (visits : List Visit) → All P visits → All P (without_number number visits)

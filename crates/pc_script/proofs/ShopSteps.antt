@@ -12,11 +12,11 @@ use Rattle.pc_calls.specs.declared.call.Call.TheVariants.{Open, Close, Publish, 
 use Rattle.pc_calls.specs.declared.outcome.Outcome.{Outcome}
 use Rattle.pc_calls.specs.declared.outcome.Outcome.TheVariants.{Done, NoSession, NoVersion, SessionsFull, NoProduct, Stale, ShelvesFull}
 use Rattle.pc_calls.specs.declared.reply.Reply.{Reply}
-use Rattle.pc_calls.specs.Answer.{Answer, ◌>>=◌, ◌>>◌, refused_where, required}
+use Rattle.pc_calls.specs.Decision.{Decision, ◌>>=◌, ◌>>◌, refused_where, required}
 use Rattle.pc_calls.specs.Heads.{head_by, reply, shown_by}
 use Rattle.pc_calls.specs.Selection.{Selection, free, shown}
 use Rattle.pc_calls.specs.State.{OpenSession, State, Version, current, live_versions, open_sessions, opened_by, is_owned, is_session, file_of}
-use Rattle.pc_calls.specs.Step.{after, change_numbered, drop_first, given, state_of, with_opened}
+use Rattle.pc_calls.specs.Step.{after, change_numbered, drop_first, step, state_of, with_opened}
 use Rattle.pc_session.specs.Visit.{Visit}
 use Rattle.pc_script.specs.ShopState.{IsPinned, callers_by, on_shelf, owned, state_by}
 use Rattle.pc_script.specs.Visits.{close_reply, has_number, plain_head, without_number}
@@ -65,7 +65,7 @@ opened_state state = record {
 abbrev closed_state : State → ℕ → State
 closed_state state number = record { versions = state.versions; callers = state.callers; sessions = drop_first (is_session 1 number) state.sessions }
 
-abbrev reply_by : Call → State → Answer State → Reply
+abbrev reply_by : Call → State → Decision State → Reply
 reply_by call before result = record { head = head_by 1 call before result; shown = shown_by 1 call result }
 
 abbrev refusal_of : ℕ → ℕ → Outcome → Reply
@@ -79,7 +79,7 @@ module _ (files : List Contents) (left : Bool) (opened : ℕ) (visits : List Vis
   pub open_early : length files ≡ 0 → (reply 1 Open here ≡ refusal_of 0 0 NoVersion) × (after 1 Open here ≡ here)
   open_early none =
       let test : (current here == 0) ≡ true = let n = length-shelf files in grind (arith, nat_tests, n, none) in
-      let gives : given 1 Open here ≡ Err NoVersion = ap (λ (b : Bool). refused_where b NoVersion >> (refused_where (nat_le 64 (open_sessions here 1)) SessionsFull >> Ok (opened_state here))) test in
+      let gives : step 1 Open here ≡ Err NoVersion = ap (λ (b : Bool). refused_where b NoVersion >> (refused_where (nat_le 64 (open_sessions here 1)) SessionsFull >> Ok (opened_state here))) test in
       (ap (reply_by Open here) gives, ap (state_of here) gives)
 
   -- open, with as many open sessions as may be
@@ -87,7 +87,7 @@ module _ (files : List Contents) (left : Bool) (opened : ℕ) (visits : List Vis
   open_full some full =
       let test : (current here == 0) ≡ false = let n = length-shelf files in grind (arith, nat_tests, n, some) in
       let many : nat_le 64 (open_sessions here 1) ≡ true = let n = count-owned visits in grind (arith, nat_tests, n, full) in
-      let gives : given 1 Open here ≡ Err SessionsFull =
+      let gives : step 1 Open here ≡ Err SessionsFull =
       ap (λ (b : Bool). refused_where b NoVersion >> (refused_where (nat_le 64 (open_sessions here 1)) SessionsFull >> Ok (opened_state here))) test
       ∙ ap (λ (b : Bool). refused_where b SessionsFull >> Ok (opened_state here)) many in
       (ap (reply_by Open here) gives, ap (state_of here) gives)
@@ -108,7 +108,7 @@ module _ (files : List Contents) (left : Bool) (opened : ℕ) (visits : List Vis
       let becomes : opened_state here ≡ later =
       ap (λ (s : OpenSession). record { versions = map on_shelf files; callers = callers_by true left (opened + 1); sessions = map owned visits ++ s ∷ [] }) session
       ∙ ap (λ (ss : List OpenSession). record { versions = map on_shelf files; callers = callers_by true left (opened + 1); sessions = ss }) (sym (map-append owned visits (new ∷ []))) in
-      let gives : given 1 Open here ≡ Ok later =
+      let gives : step 1 Open here ≡ Ok later =
       ap (λ (b : Bool). refused_where b NoVersion >> (refused_where (nat_le 64 (open_sessions here 1)) SessionsFull >> Ok (opened_state here))) test
       ∙ ap (λ (b : Bool). refused_where b SessionsFull >> Ok (opened_state here)) room
       ∙ ap (λ (s : State). Ok s) becomes in
@@ -144,13 +144,13 @@ module _ (files : List Contents) (entered left : Bool) (opened : ℕ) (visits : 
       → (reply 1 (Close number) now ≡ close_reply number found) × (after 1 (Close number) now ≡ state_by files entered left opened (without_number number visits))
   close-found number None e =
       let there = session-found files entered left opened visits number None e in
-      let gives : given 1 (Close number) now ≡ Err NoSession = ap (λ (o : Option OpenSession). required o NoSession >>= (λ session. Ok (closed_state now number))) there in (
+      let gives : step 1 (Close number) now ≡ Err NoSession = ap (λ (o : Option OpenSession). required o NoSession >>= (λ session. Ok (closed_state now number))) there in (
         ap (reply_by (Close number) now) gives ∙ ap (λ (o : Option OpenSession). refusal_of number (unwrap_or (option_map (λ s. s.version) o) 0) NoSession) there,
         ap (state_of now) gives ∙ ap (state_by files entered left opened) (sym (none-without number visits e)),
       )
   close-found number (Some visit) e =
       let there = session-found files entered left opened visits number (Some visit) e in
-      let gives : given 1 (Close number) now ≡ Ok (closed_state now number) = ap (λ (o : Option OpenSession). required o NoSession >>= (λ session. Ok (closed_state now number))) there in (
+      let gives : step 1 (Close number) now ≡ Ok (closed_state now number) = ap (λ (o : Option OpenSession). required o NoSession >>= (λ session. Ok (closed_state now number))) there in (
         ap (reply_by (Close number) now) gives ∙ ap (λ (o : Option OpenSession). refusal_of number (unwrap_or (option_map (λ s. s.version) o) 0) Done) there,
         ap (state_of now) gives ∙ ap (λ (ss : List OpenSession). record { versions = map on_shelf files; callers = callers_by entered left opened; sessions = ss }) (drop-owned number visits),
       )
@@ -165,13 +165,13 @@ module _ (files : List Contents) (entered left : Bool) (opened : ℕ) (visits : 
   abbrev published : Contents → State
   published file = record { versions = map on_shelf files ++ on_shelf file ∷ []; callers = callers_by entered left opened; sessions = map owned visits }
 
-  abbrev publish_by : Bool → Bool → Bool → Contents → Answer State
+  abbrev publish_by : Bool → Bool → Bool → Contents → Decision State
   publish_by none other full file = refused_where none NoProduct >> (refused_where other (Stale (current now)) >> (refused_where full ShelvesFull >> Ok (published file)))
 
   -- publish
   pub publish_empty : (base : ℕ) (file : Contents) → length (products file) ≡ 0 → (reply 1 (Publish base file) now ≡ refusal_of 0 0 NoProduct) × (after 1 (Publish base file) now ≡ now)
   publish_empty base file none =
-      let gives : given 1 (Publish base file) now ≡ Err NoProduct = ap (λ (b : Bool). publish_by b (not (base == current now)) (nat_le 32 (live_versions now)) file) (let t : (length (products file) == 0) ≡ true = grind (arith, nat_tests, none) in t) in
+      let gives : step 1 (Publish base file) now ≡ Err NoProduct = ap (λ (b : Bool). publish_by b (not (base == current now)) (nat_le 32 (live_versions now)) file) (let t : (length (products file) == 0) ≡ true = grind (arith, nat_tests, none) in t) in
       (ap (reply_by (Publish base file) now) gives, ap (state_of now) gives)
 
   some-product : (file : Contents) → 1 ≤ length (products file) → (length (products file) == 0) ≡ false
@@ -179,13 +179,13 @@ module _ (files : List Contents) (entered left : Bool) (opened : ℕ) (visits : 
 
   pub publish_stale : (base : ℕ) (file : Contents) → 1 ≤ length (products file) → (base == length files) ≡ false → (reply 1 (Publish base file) now ≡ refusal_of 0 0 (Stale (length files))) × (after 1 (Publish base file) now ≡ now)
   publish_stale base file some other =
-      let gives : given 1 (Publish base file) now ≡ Err (Stale (length files)) =
+      let gives : step 1 (Publish base file) now ≡ Err (Stale (length files)) =
       ap (λ (b : Bool). publish_by b (not (base == current now)) (nat_le 32 (live_versions now)) file) (some-product file some)
       ∙ ap (λ (n : ℕ). refused_where (not (base == n)) (Stale n) >> (refused_where (nat_le 32 (live_versions now)) ShelvesFull >> Ok (published file))) (length-shelf files)
       ∙ ap (λ (b : Bool). refused_where (not b) (Stale (length files)) >> (refused_where (nat_le 32 (live_versions now)) ShelvesFull >> Ok (published file))) other in
       (ap (reply_by (Publish base file) now) gives, ap (state_of now) gives)
 
-  current-base : (base : ℕ) (file : Contents) → 1 ≤ length (products file) → (base == length files) ≡ true → given 1 (Publish base file) now ≡ (refused_where (nat_le 32 (live_versions now)) ShelvesFull >> Ok (published file))
+  current-base : (base : ℕ) (file : Contents) → 1 ≤ length (products file) → (base == length files) ≡ true → step 1 (Publish base file) now ≡ (refused_where (nat_le 32 (live_versions now)) ShelvesFull >> Ok (published file))
   current-base base file some same =
       ap (λ (b : Bool). publish_by b (not (base == current now)) (nat_le 32 (live_versions now)) file) (some-product file some)
       ∙ ap (λ (n : ℕ). refused_where (not (base == n)) (Stale n) >> (refused_where (nat_le 32 (live_versions now)) ShelvesFull >> Ok (published file))) (length-shelf files)
@@ -193,14 +193,14 @@ module _ (files : List Contents) (entered left : Bool) (opened : ℕ) (visits : 
 
   pub publish_full : (base : ℕ) (file : Contents) → 1 ≤ length (products file) → (base == length files) ≡ true → 32 ≤ length files → (reply 1 (Publish base file) now ≡ refusal_of 0 0 ShelvesFull) × (after 1 (Publish base file) now ≡ now)
   publish_full base file some same full =
-      let gives : given 1 (Publish base file) now ≡ Err ShelvesFull =
+      let gives : step 1 (Publish base file) now ≡ Err ShelvesFull =
       current-base base file some same ∙ ap (λ (b : Bool). refused_where b ShelvesFull >> Ok (published file)) (let n = live-shelf files in let t : nat_le 32 (live_versions now) ≡ true = grind (arith, nat_tests, n, full) in t) in
       (ap (reply_by (Publish base file) now) gives, ap (state_of now) gives)
 
   pub publish_done : (base : ℕ) (file : Contents) → 1 ≤ length (products file) → (base == length files) ≡ true → length files < 32
       → (reply 1 (Publish base file) now ≡ refusal_of 0 (length files + 1) Done) × (after 1 (Publish base file) now ≡ state_by (files ++ file ∷ []) entered left opened visits)
   publish_done base file some same few =
-      let gives : given 1 (Publish base file) now ≡ Ok (published file) =
+      let gives : step 1 (Publish base file) now ≡ Ok (published file) =
       current-base base file some same ∙ ap (λ (b : Bool). refused_where b ShelvesFull >> Ok (published file)) (let n = live-shelf files in let t : nat_le 32 (live_versions now) ≡ false = grind (arith, nat_tests, n, few) in t) in
       let count : length (map on_shelf files ++ on_shelf file ∷ []) ≡ length files + 1 = length-append (map on_shelf files) (on_shelf file ∷ []) ∙ ap (λ (n : ℕ). n + 1) (length-shelf files) in (
         ap (reply_by (Publish base file) now) gives ∙ ap (λ (n : ℕ). refusal_of 0 n Done) count,

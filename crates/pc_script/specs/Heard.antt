@@ -3,8 +3,8 @@ use Rattle.std.specs.Prelude.{ℕ, ◌+◌, ◌&&◌, not, nat_le, Bool, true, f
 use Rattle.pc_calls.specs.declared.command.Command.{Command}
 use Rattle.pc_calls.specs.declared.command.Command.TheVariants as command
 use Rattle.pc_calls.specs.CommandLine.{command_of}
-use Rattle.pc_calls.specs.CommandReader.{unsigned_of}
-use Rattle.pc_calls.specs.LineWords.{Word, words_from, end_of}
+use Rattle.pc_names.specs.Number.{unsigned_of}
+use Rattle.pc_calls.specs.LineWords.{LineWord, words_from, end_of}
 use Rattle.pc_calls.specs.State.{State, numbered}
 use Rattle.pc_conn.specs.declared.body.Body.{Body}
 use Rattle.pc_conn.specs.declared.item.Heard.{Heard as HeardWords}
@@ -55,16 +55,16 @@ of_caller caller (words.Item item) = says.Said (record { caller = caller; item =
 of_caller caller (words.Publish publish) = says.Publish (record { caller = caller; publish = publish })
 
 -- the word of a command, where the script doesn't know it yet, is the first wrong word
-abbrev pub heard_command : ℕ → List ℕ → ℕ → List Word → Heard
+abbrev pub heard_command : ℕ → List ℕ → ℕ → List LineWord → Heard
 heard_command caller line from [] = of_caller caller (heard_words line from)
 heard_command caller line from (word ∷ words) =
     if is_later (command_of word.bytes) then bad_at caller (word.place + 1) else of_caller caller (heard_words line from)
 
-abbrev pub heard_after : Option ℕ → List ℕ → Word → Heard
+abbrev pub heard_after : Option ℕ → List ℕ → LineWord → Heard
 heard_after None line word = bad_at 0 (word.place + 1)
 heard_after (Some caller) line word = heard_command caller line (end_of word) (words_from line (end_of word))
 
-abbrev pub heard_from : State → List ℕ → List Word → Heard
+abbrev pub heard_from : State → List ℕ → List LineWord → Heard
 heard_from state line [] = bad_at 0 (length line + 1)
 heard_from state line (word ∷ words) = heard_after (caller_of state word.bytes) line word
 

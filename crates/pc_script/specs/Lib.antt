@@ -1,5 +1,5 @@
 pub mod BikeScript
-pub mod Ends
+pub mod EndBy
 pub mod Heard
 pub mod Made
 pub mod Script

@@ -1,10 +1,11 @@
 -- The calls that a script makes.
 use Rattle.std.specs.Prelude.{◌≡◌, ℕ, ◌≤◌, ⊤, Bool, false, List, [], ◌∷◌}
+use Rattle.pc_file.specs.declared.sizes.TheConstants.{MOST_WORDS}
 use Rattle.pc_file.specs.Products.{words_of}
 use Rattle.pc_calls.specs.declared.call.Call.{Call}
 use Rattle.pc_calls.specs.declared.call.Call.TheVariants.{Open, Show, Choose, Retract, Close, Publish, Leave}
 use Rattle.pc_calls.specs.CommandLine.{command_of}
-use Rattle.pc_calls.specs.LineWords.{Word}
+use Rattle.pc_calls.specs.LineWords.{LineWord}
 use Rattle.pc_conn.specs.declared.item.Item.{Item}
 use Rattle.pc_conn.specs.declared.item.Item.TheVariants as item
 use Rattle.pc_script.specs.Heard.{is_later}
@@ -19,7 +20,7 @@ IsMadeCall (Show session) = ⊤
 IsMadeCall (Choose session variable value) = ⊤
 IsMadeCall (Retract session variable) = ⊤
 IsMadeCall (Close session) = ⊤
-IsMadeCall (Publish base file) = words_of file ≤ 65536
+IsMadeCall (Publish base file) = words_of file ≤ MOST_WORDS
 IsMadeCall Leave = ⊤
 IsMadeCall call = ⊥
 
@@ -36,6 +37,6 @@ IsMadeBy (says.Said said) = IsMade said
 IsMadeBy (says.Publish awaited) = awaited.caller ≡ 1
 
 -- the first word is that of a command which a script doesn't know yet
-abbrev pub is_later_first : List Word → Bool
+abbrev pub is_later_first : List LineWord → Bool
 is_later_first [] = false
 is_later_first (word ∷ words) = is_later (command_of word.bytes)

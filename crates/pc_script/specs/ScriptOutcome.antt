@@ -4,17 +4,19 @@ use Rattle.std.specs.Io.KnownBytes.{IsAtEnd, append_known, prepend_known}
 use Rattle.pc_base.specs.Lines.{lines, HasNoFeed}
 use Rattle.pc_base.specs.Rose.{Rose}
 use Rattle.pc_io.specs.declared.line_fault.LineFault.{LineFault}
+use Rattle.pc_io.specs.declared.lines.TheConstants.{MOST_LINE_BYTES}
 use Rattle.pc_io.specs.Ends.{Ends}
 use Rattle.pc_io.specs.Limits.{broken_limit}
 use Rattle.pc_io.specs.NextLine.{answer_to}
 use Rattle.pc_io.specs.Told.{GrewByPart}
+use Rattle.pc_script.specs.declared.running.TheConstants.{MOST_SCRIPT_BYTES}
 use Rattle.pc_script.specs.declared.script_end.ScriptEnd.{ScriptEnd}
 use Rattle.pc_script.specs.declared.script_end.ScriptEnd.TheVariants.{Ended, ReadFault, WriteFault, TooLong, NoMemory}
 use Rattle.pc_script.specs.Script.{answers_to, script_text}
 
--- a line has at most 65,536 bytes, and all lines have at most 16,777,216
+-- the limit that a script breaks: that of a line, or of all bytes
 abbrev pub broken : List ℕ → Option LineFault
-broken bytes = broken_limit 65536 16777216 bytes
+broken bytes = broken_limit MOST_LINE_BYTES MOST_SCRIPT_BYTES bytes
 
 -- the source was read to its end, and the script's text was written, all of it
 pub record AnswersAll (before after : Ends) : Type 0 where
@@ -33,7 +35,7 @@ pub record AnswersBefore (all : List ℕ) (before after : Ends) : Type 0 where
   pub parts : all ≡ bytes ++ coming
   pub cut : (later : List ℕ) → lines (bytes ++ later) ≡ taken ++ lines later
   pub within : broken bytes ≡ None
-  pub breaks : answer_to 65536 (16777216 - length bytes) coming ≡ Err fault
+  pub breaks : answer_to MOST_LINE_BYTES (MOST_SCRIPT_BYTES - length bytes) coming ≡ Err fault
   pub is_broken : broken all ≡ Some fault
   pub written : after.written ≡ append_known before.written (answers_to taken)
 

@@ -1,5 +1,6 @@
 -- The state of a shop with one caller.
 use Rattle.std.specs.Prelude.{◌≡◌, ℕ, ◌≤◌, Bool, true, if◌then◌else◌, List, [], ◌∷◌, map, length, Some}
+use Rattle.pc_file.specs.declared.sizes.TheConstants.{MOST_WORDS}
 use Rattle.pc_file.specs.Limits.{Contents}
 use Rattle.pc_file.specs.Products.{products, words_of}
 use Rattle.pc_calls.specs.State.{Caller, OpenSession, State, Version, numbered}
@@ -22,7 +23,7 @@ state_by files entered left opened visits = record { versions = map on_shelf fil
 
 -- a file on the shelf has a product and few enough words for the plain list
 abbrev pub IsShelved : Contents → Type 0
-IsShelved file = (words_of file ≤ 65536) × (1 ≤ length (products file))
+IsShelved file = (words_of file ≤ MOST_WORDS) × (1 ≤ length (products file))
 
 -- the file of a session is that of its version
 abbrev pub IsPinned : List Contents → Visit → Type 0

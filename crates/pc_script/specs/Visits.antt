@@ -7,7 +7,7 @@ use Rattle.pc_calls.specs.declared.outcome.Outcome.TheVariants.{Done, NoSession}
 use Rattle.pc_calls.specs.declared.reply.Reply.{Reply}
 use Rattle.pc_calls.specs.declared.reply.Shown.{Shown}
 use Rattle.pc_diagram.specs.declared.listed.Listed.{Listed}
-use Rattle.pc_calls.specs.Answer.{Answer}
+use Rattle.pc_calls.specs.Decision.{Decision}
 use Rattle.pc_calls.specs.Selection.{Selection, shown}
 use Rattle.pc_session.specs.Visit.{Visit, visit_after}
 
@@ -20,7 +20,7 @@ abbrev pub plain_head : ℕ → ℕ → Outcome → Head
 plain_head session version outcome = record { session = session; version = version; outcome = outcome; live = []; dropped = [] }
 
 -- the reply to a call of a session that gives this
-abbrev pub visit_reply : Visit → Answer Selection → Reply
+abbrev pub visit_reply : Visit → Decision Selection → Reply
 visit_reply visit (Ok selection) = record { head = plain_head visit.number visit.version Done; shown = Some (record { file = visit.file; listing = shown visit.file selection }) }
 visit_reply visit (Err refusal) = record { head = plain_head visit.number visit.version refusal; shown = None }
 
@@ -29,15 +29,15 @@ abbrev pub no_session_reply : ℕ → Reply
 no_session_reply number = record { head = plain_head number 0 NoSession; shown = None }
 
 -- the reply to a call of the session of a number
-abbrev pub reply_at : ℕ → (Contents → Selection → Answer Selection) → Option Visit → Reply
+abbrev pub reply_at : ℕ → (Contents → Selection → Decision Selection) → Option Visit → Reply
 reply_at number ask None = no_session_reply number
 reply_at number ask (Some visit) = visit_reply visit (ask visit.file visit.selection)
 
-abbrev pub reply_among : ℕ → (Contents → Selection → Answer Selection) → List Visit → Reply
+abbrev pub reply_among : ℕ → (Contents → Selection → Decision Selection) → List Visit → Reply
 reply_among number ask visits = reply_at number ask (find (has_number number) visits)
 
 -- the sessions after it
-abbrev pub visits_after : ℕ → (Contents → Selection → Answer Selection) → List Visit → List Visit
+abbrev pub visits_after : ℕ → (Contents → Selection → Decision Selection) → List Visit → List Visit
 visits_after number ask [] = []
 visits_after number ask (visit ∷ visits) = if has_number number visit then visit_after visit (ask visit.file visit.selection) ∷ visits else visit ∷ visits_after number ask visits
 

@@ -3,12 +3,14 @@
 ghost use Rattle.std.specs.Prelude.{◌≡◌, ◌==◌, ◌<◌, ◌≤◌, ◌+◌, ◌^◌, ◌++◌, ◌∷◌, [], not, filter, length, position, find, IfOk, OnOk, OnErr, IfSome, Some, None, Ok, Err};
 ghost use Rattle.pc_calls.specs.declared.outcome.Outcome.TheVariants.{Done};
 ghost use Rattle.pc_calls.specs.Selection.{choose, free, retract, show, shown};
+ghost use Rattle.pc_file.specs.declared.sizes.TheConstants.{MOST_WORDS};
 ghost use Rattle.pc_file.specs.Products.{products, words_of};
 ghost use Rattle.pc_script.specs.Visits.{has_number, no_session_reply, plain_head, close_reply, reply_among, shown_with, visits_after, without_number};
 
 use pc_base::{NoMemory, Sequence};
-use pc_calls::{Head, Outcome, Reply, SharedFile, Shown};
+use pc_calls::{Head, Outcome, Reply, Shown};
 use pc_diagram::Listing;
+use pc_file::SharedFile;
 use pc_names::Name;
 use pc_session::{Answer, Session};
 use std::alloc::Global;
@@ -84,7 +86,7 @@ impl Guest {
 
     /// Opens a session at a version with its file, which has a product and at most 65,536 words.
     pub fn open(&mut self, version: u64, file: SharedFile) -> Result<Reply, NoMemory>
-        requires few { words_of file ≤ 65536 }
+        requires few { words_of file ≤ MOST_WORDS }
         requires product { 1 ≤ length (products file) }
         requires room { self.old.opened < 2 ^ 63 }
         ensures reply { IfOk result (λ reply. reply ≡ record { head = plain_head (self.old.opened + 1) version Done; shown = Some (record { file = file; listing = shown file free }) }) }

@@ -12,5 +12,5 @@ mod shop;
 mod speaking;
 mod turn;
 
-pub use running::run_script;
+pub use running::{MOST_SCRIPT_BYTES, run_script};
 pub use script_end::ScriptEnd;

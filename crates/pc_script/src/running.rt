@@ -1,6 +1,7 @@
 //! Running a script.
 
 ghost use Rattle.std.specs.Prelude.{◌≡◌, ◌≤◌, ◌<◌, ◌+◌, ◌^◌, OnOk};
+ghost use Rattle.pc_io.specs.Ends.{ends};
 ghost use Rattle.pc_calls.specs.State.{opened_by};
 ghost use Rattle.pc_script.specs.Made.{IsMade};
 ghost use Rattle.pc_script.specs.Script.{said_after, said_text};
@@ -12,21 +13,17 @@ use crate::item::Said;
 use crate::script_end::ScriptEnd;
 use crate::shop::Shop;
 use crate::turn::Turn;
-use pc_io::{Lines, Sink, Source, put_all};
+use pc_io::{Lines, MOST_LINE_BYTES, Sink, Source, put_all};
 use std::alloc::Global;
 
-/// The most bytes of a line of a script, without its line feed.
-const LINE_LIMIT: u64 = 65_536;
-
 /// The most bytes of a script.
-const TOTAL_LIMIT: u64 = 16_777_216;
+pub const MOST_SCRIPT_BYTES: u64 = 16_777_216;
 
 /// Runs a script: each line is `CALLER COMMAND` and is answered before the next is read. At the end of the input the
 /// callers leave.
 pub fn run_script<S: Source, K: Sink>(alloc: Global, source: &mut S, sink: &mut K) -> ScriptEnd
-    ensures left { Leaves result
-        (record { rest = S.rest source.old; read_faults = S.read_faults source.old; written = K.written sink.old; write_faults = K.write_faults sink.old })
-        (record { rest = S.rest source.new; read_faults = S.read_faults source.new; written = K.written sink.new; write_faults = K.write_faults sink.new }) }
+    ensures left { let seen = ends S.rest S.read_faults K.written K.write_faults in
+        Leaves result (seen source.old sink.old) (seen source.new sink.new) }
     ensures counted_reads { S.read_faults source.old ≤ S.read_faults source.new }
     ensures counted_writes { K.write_faults sink.old ≤ K.write_faults sink.new }
     ensures read_aside { S.read_aside source.new ≡ S.read_aside source.old }
@@ -44,15 +41,14 @@ fn answer_all<S: Source, K: Sink>(
     source: &mut S,
     sink: &mut K,
 ) -> Result<(), ScriptEnd>
-    ensures left { LeavesBy result
-        (record { rest = S.rest source.old; read_faults = S.read_faults source.old; written = K.written sink.old; write_faults = K.write_faults sink.old })
-        (record { rest = S.rest source.new; read_faults = S.read_faults source.new; written = K.written sink.new; write_faults = K.write_faults sink.new }) }
+    ensures left { let seen = ends S.rest S.read_faults K.written K.write_faults in
+        LeavesBy result (seen source.old sink.old) (seen source.new sink.new) }
     ensures counted_reads { S.read_faults source.old ≤ S.read_faults source.new }
     ensures counted_writes { K.write_faults sink.old ≤ K.write_faults sink.new }
     ensures read_aside { S.read_aside source.new ≡ S.read_aside source.old }
     ensures write_aside { K.write_aside sink.new ≡ K.write_aside sink.old }
 {
-    let mut lines = Lines::new(alloc, LINE_LIMIT, TOTAL_LIMIT)?;
+    let mut lines = Lines::new(alloc, MOST_LINE_BYTES, MOST_SCRIPT_BYTES)?;
     let mut shop = Shop::new(alloc);
     while !lines.has_ended() {
         let Some(next) = hear_next(alloc, &shop, &mut lines, source)? else {

@@ -43,7 +43,7 @@ impl From<Failed> for ScriptEnd {
 
 impl From<LineFault> for ScriptEnd {
     ghost use Rattle.std.specs.Prelude.{◌≡◌};
-    ghost use Rattle.pc_script.specs.Ends.{end_by};
+    ghost use Rattle.pc_script.specs.EndBy.{end_by};
 
     ghost from_gives = { λ fault end. end ≡ end_by fault };
 
@@ -58,7 +58,7 @@ impl From<LineFault> for ScriptEnd {
 
 impl From<BodyFault> for ScriptEnd {
     ghost use Rattle.std.specs.Prelude.{◌≡◌};
-    ghost use Rattle.pc_script.specs.Ends.{end_by_body};
+    ghost use Rattle.pc_script.specs.EndBy.{end_by_body};
 
     ghost from_gives = { λ fault end. end ≡ end_by_body fault };
 

@@ -1,6 +1,7 @@
 //! The state of a script: the published versions, and the one caller with its sessions.
 
 ghost use Rattle.std.specs.Prelude.{◌≡◌, ℕ, ◌<◌, ◌≤◌, ◌+◌, ◌^◌, ◌==◌, List, length, true, false, IsTrue, Some, None, Ok, Err, IfOk, OnOk};
+ghost use Rattle.pc_file.specs.declared.sizes.TheConstants.{MOST_WORDS};
 ghost use Rattle.pc_file.specs.Products.{products, words_of};
 ghost use Rattle.pc_calls.specs.declared.call.Call.TheVariants.{Open, Show, Choose, Retract, Close, Publish, Leave};
 ghost use Rattle.pc_calls.specs.Heads.{reply};
@@ -12,18 +13,12 @@ ghost use Rattle.pc_script.specs.Script.{entered};
 
 use crate::guest::{Guest, plain_head, refused};
 use pc_base::{NoMemory, Sequence};
-use pc_calls::{Call, Outcome, Reply, SharedFile, Shown};
-use pc_file::{File, plain_products};
+use pc_calls::{Call, MOST_LIVE, MOST_SESSIONS, Outcome, Reply, Shown};
+use pc_file::{File, SharedFile, plain_products};
 use pc_names::Name;
 use pc_session::Session;
 use std::alloc::Global;
 use std::marker::Model;
-
-/// The most sessions that a caller may have open.
-const MOST_SESSIONS: usize = 64;
-
-/// The most versions that may be live.
-const MOST_LIVE: usize = 32;
 
 /// The files of the versions in order of their numbers, from 1 on, and the caller 1: whether it has entered, whether
 /// it has left, and its sessions.
@@ -39,7 +34,7 @@ impl Model for Shop {
     ghost use Rattle.std.specs.Prelude.{◌≡◌, ◌≤◌, false, All};
     ghost use Rattle.std.specs.Coded.{codes};
     ghost use Rattle.pc_calls.specs.State.{State};
-    ghost use Rattle.pc_calls.specs.contracts.shared_file.SharedFile as shared;
+    ghost use Rattle.pc_file.specs.contracts.shared_file.SharedFile as shared;
     ghost use Rattle.pc_script.specs.ShopState.{IsPinned, IsShelved, state_by};
 
     ghost Value = { State };
@@ -54,7 +49,7 @@ impl Model for Shop {
 
 /// Whether a file that has few words has a product.
 fn has_product(alloc: Global, file: &File) -> Result<bool, NoMemory>
-    requires { words_of file.now ≤ 65536 }
+    requires { words_of file.now ≤ MOST_WORDS }
     ensures { IfOk result (λ some. (some ≡ true → 1 ≤ length (products file.now)) × (some ≡ false → length (products file.now) ≡ 0)) }
 {
     match plain_products(alloc, file) {
@@ -191,7 +186,7 @@ impl Shop {
 
     /// Makes a file the next version.
     fn publish(&mut self, base: u64, file: SharedFile) -> Result<Reply, NoMemory>
-        requires few { words_of file ≤ 65536 }
+        requires few { words_of file ≤ MOST_WORDS }
         ensures reply { IfOk result (λ r. r ≡ reply 1 (Publish base file) self.old) }
         ensures state { OnOk result (self.new ≡ after 1 (Publish base file) self.old) }
         ensures opened { OnOk result (opened_by self.new 1 ≡ opened_by self.old 1) }

@@ -14,8 +14,10 @@ ghost use Rattle.pc_script.specs.Script.{caller_line, entered, said_after, said_
 use crate::item::{Heard, Said};
 use crate::shop::Shop;
 use pc_base::{Line, NoMemory, Text};
-use pc_calls::{Call, Command, PlacedWord, first_word, unsigned, write_reply};
+use pc_calls::{Call, Command, PlacedWord, first_word, write_reply};
 use pc_conn::{Item, hear, push_bad, push_fault, push_not_built};
+use pc_names::read_unsigned;
+
 /// Whether a command is one that a script doesn't know yet.
 fn is_later(command: Option<Command>) -> bool
     ensures { result ≡ is_later command }
@@ -104,7 +106,7 @@ impl Shop {
         ensures caller { result ≡ caller_of self.now word.now }
         ensures one { IfSome result (λ caller. caller ≡ 1) }
     {
-        match unsigned(word) {
+        match read_unsigned(word) {
             Some(caller) if self.may_speak(caller) => Some(caller),
             _ => None,
         }

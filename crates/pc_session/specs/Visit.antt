@@ -6,7 +6,7 @@ use Rattle.pc_file.specs.Limits.{Contents}
 use Rattle.pc_file.specs.Costs.{costs_of}
 use Rattle.pc_file.specs.Products.{products}
 use Rattle.pc_calls.specs.declared.outcome.Outcome.TheVariants.{Done}
-use Rattle.pc_calls.specs.Answer.{Answer}
+use Rattle.pc_calls.specs.Decision.{Decision}
 use Rattle.pc_calls.specs.Selection.{Selection, shown}
 use Rattle.pc_session.specs.declared.answer.Answer as declared
 
@@ -22,11 +22,11 @@ abbrev pub some_fit : Contents → Selection → Bool
 some_fit file selection = list_any (λ word. fits (costs_of file.variables) word selection.choices selection.bounds) (products file)
 
 -- what is answered to a call that gives this: the listing of what is asked then, or the refusal
-abbrev pub answer_to : Contents → Answer Selection → declared.Answer
+abbrev pub answer_to : Contents → Decision Selection → declared.Answer
 answer_to file (Ok selection) = record { outcome = Done; listing = Some (shown file selection) }
 answer_to file (Err refusal) = record { outcome = refusal; listing = None }
 
 -- the session after such a call
-abbrev pub visit_after : Visit → Answer Selection → Visit
+abbrev pub visit_after : Visit → Decision Selection → Visit
 visit_after visit (Ok selection) = record visit { selection = selection }
 visit_after visit (Err refusal) = visit

@@ -3,6 +3,7 @@
 ghost use Rattle.std.specs.List.{list_any};
 ghost use Rattle.std.specs.Prelude.{◌≡◌, ◌==◌, ◌≤◌, ◌<◌, [], Ok, Err, IfOk, OnOk, OnErr, IsTrue, length};
 ghost use Rattle.pc_diagram.specs.Choices.{is_chosen};
+ghost use Rattle.pc_file.specs.declared.sizes.TheConstants.{MOST_WORDS};
 ghost use Rattle.pc_file.specs.Costs.{file_listing};
 ghost use Rattle.pc_file.specs.Products.{products, words_of};
 ghost use Rattle.pc_calls.specs.Selection.{free, shown, is_in, show, choose, retract};
@@ -10,9 +11,9 @@ ghost use Rattle.pc_session.specs.Visit.{answer_to, visit_after};
 
 use crate::answer::Answer;
 use pc_base::{NoMemory, Sequence};
-use pc_calls::{Outcome, SharedFile};
+use pc_calls::Outcome;
 use pc_diagram::{Bounds, Choices, Listed, Listing, Word};
-use pc_file::{File, PlainFault, listing_over, plain_products};
+use pc_file::{File, PlainFault, SharedFile, listing_over, plain_products};
 use pc_names::Name;
 use std::alloc::Global;
 use std::marker::Model;
@@ -31,7 +32,7 @@ pub struct Session {
 impl Model for Session {
     ghost use Rattle.std.specs.Prelude.{◌≡◌, ◌≤◌, IsTrue};
     ghost use Rattle.pc_file.specs.Products.{words_of};
-    ghost use Rattle.pc_calls.specs.contracts.shared_file.SharedFile as shared;
+    ghost use Rattle.pc_file.specs.contracts.shared_file.SharedFile as shared;
     ghost use Rattle.pc_session.specs.Visit.{Visit, some_fit};
     ghost use Rattle.std.specs.Coded.{codes};
 
@@ -41,12 +42,12 @@ impl Model for Session {
 
     ghost view = { λ s. record { number = s.number; version = s.version; file = s.file; selection = record { choices = s.choices; bounds = s.bounds } } };
 
-    ghost invariant = { λ s. (words_of s.file ≤ 65536) × IsTrue (some_fit s.file (record { choices = s.choices; bounds = s.bounds })) };
+    ghost invariant = { λ s. (words_of s.file ≤ MOST_WORDS) × IsTrue (some_fit s.file (record { choices = s.choices; bounds = s.bounds })) };
 }
 
 /// The products of a file that has few words.
 fn products_of(alloc: Global, file: &File) -> Result<Sequence<Word>, NoMemory>
-    requires { words_of file.now ≤ 65536 }
+    requires { words_of file.now ≤ MOST_WORDS }
     ensures { IfOk result (λ words. words ≡ products file.now) }
 {
     match plain_products(alloc, file) {
@@ -81,7 +82,7 @@ impl Session {
         file: SharedFile,
         version_number: u64,
     ) -> Result<(Session, Listing), NoMemory>
-        requires few { words_of file ≤ 65536 }
+        requires few { words_of file ≤ MOST_WORDS }
         requires product { 1 ≤ length (products file) }
         ensures session { IfOk result (λ p. p.0 ≡ record { number = number; version = version_number; file = file; selection = free }) }
         ensures listing { IfOk result (λ p. p.1 ≡ shown file free) }

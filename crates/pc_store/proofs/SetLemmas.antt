@@ -10,7 +10,7 @@ use Rattle.pc_base.specs.declared.memory.NoMemory.{NoMemory}
 use Rattle.pc_store.specs.declared.id.Id.{Id}
 use Rattle.pc_store.specs.declared.layer.Layer.{Layer}
 use Rattle.pc_store.specs.Layered.{row_of, node_count, accepts, IsRow, IsLayer, IsLayered, IsStore, IsDomain, RowFits, HasRow, with_row_at}
-use Rattle.pc_store.specs.Sets.{domains_of, layer_of, IsId, IsIdAt, has, has_in, leads, SameWords, Keeps}
+use Rattle.pc_store.specs.Sets.{domains_of, layer_of, IsNamed, NamesSet, IsId, IsIdAt, has, has_in, leads, SameWords, Keeps}
 use Rattle.pc_store.proofs.LayerLemmas.{two_nodes, empty_node, full_node, accepts_words, same_words, stands_within}
 use Rattle.pc_store.proofs.GrowthLemmas.{Grows, grows_domains, grows_length, grows_count, grows_drop, grows_accepts, grows_with, store_with}
 
@@ -28,49 +28,54 @@ pub length-domains : (store : List Layer) → length (domains_of store) ≡ leng
 unfolding domains_of
 length-domains store = length-map store (λ layer. layer.domain)
 
--- the id of a node of a layer
-pub node_is_id : (store : List Layer) (layer node : ℕ) → layer ≤ length (domains_of store) → node < node_count (drop layer store) → IsIdAt store layer (record { layer = layer; node = node })
-unfolding IsId layer_of
-node_is_id store layer node inside lt = ((omega (arith, length-domains store), lt), refl)
-
-pub empty_is_id : (store : List Layer) (layer : ℕ) → IsLayered store → layer ≤ length (domains_of store) → IsIdAt store layer (record { layer = layer; node = 0 })
-empty_is_id store layer h inside = let two = two_nodes (drop layer store) (layered_drop layer store h) in node_is_id store layer 0 inside (omega arith)
-
-pub empty_has : (store : List Layer) (layer : ℕ) → IsLayered store → (word : List ℕ) → has store (record { layer = layer; node = 0 }) word ≡ false
-unfolding has
-empty_has store layer h word = empty_node (drop layer store) (layered_drop layer store h) word
-
-pub full_is_id : (store : List Layer) (layer : ℕ) → IsLayered store → layer ≤ length (domains_of store) → IsIdAt store layer (record { layer = layer; node = 1 })
-full_is_id store layer h inside = node_is_id store layer 1 inside (two_nodes (drop layer store) (layered_drop layer store h))
-
-pub full_has : (store : List Layer) (layer : ℕ) → IsLayered store → (word : List ℕ) → has store (record { layer = layer; node = 1 }) word ≡ is_word (drop layer (domains_of store)) word
-unfolding has domains_of
-full_has store layer h word = full_node (drop layer store) (layered_drop layer store h) word ∙ ap (λ d. is_word d word) (sym (domains_drop layer store))
-
 -- a set of a layer has words over the domains from there on
-pub has_words_only : (store : List Layer) → IsLayered store → (id : Id) → IsId store id → (word : List ℕ) → has store id word ≡ true → is_word (drop (layer_of id) (domains_of store)) word ≡ true
-unfolding has IsId layer_of domains_of
-has_words_only store h id is word there =
+named_words : (store : List Layer) → IsLayered store → (id : Id) → IsNamed store id → (word : List ℕ) → has store id word ≡ true → is_word (drop (layer_of id) (domains_of store)) word ≡ true
+unfolding has IsNamed layer_of domains_of
+named_words store h id is word there =
     ap (λ d. is_word d word) (domains_drop id.layer store) ∙ accepts_words (drop id.layer store) (layered_drop id.layer store h) id.node is.1 word there
 
 same_id : (a b : Id) → a.layer ≡ b.layer → a.node ≡ b.node → a ≡ b
 same_id a b l n = λ i. record { layer = l i; node = n i }
 
 -- ids of one layer with the same words are one id
-pub one_id : (store : List Layer) → IsLayered store → (a b : Id) → IsId store a → IsId store b → layer_of a ≡ layer_of b → SameWords store a b → a ≡ b
-unfolding has IsId layer_of
+one_id : (store : List Layer) → IsLayered store → (a b : Id) → IsNamed store a → IsNamed store b → layer_of a ≡ layer_of b → SameWords store a b → a ≡ b
+unfolding has IsNamed layer_of
 one_id store h a b is_a is_b e same =
     let there : b.node < node_count (drop a.layer store) = subst (λ l. b.node < node_count (drop l store)) (sym e) is_b.1 in
     same_id a b e (same_words (drop a.layer store) (layered_drop a.layer store h) a.node b.node is_a.1 there
     (λ word. same word ∙ ap (λ l. accepts (drop l store) b.node word) (sym e)))
 
+-- whatever names a node is an id
+pub named_is_id : (store : List Layer) → IsLayered store → (id : Id) → IsNamed store id → IsId store id
+unfolding IsId
+named_is_id store h id named = record { named = named; over = named_words store h id named; once = λ other is e same. one_id store h other id is named e same }
+
+-- the id of a node of a layer
+pub node_is_id : (store : List Layer) → IsLayered store → (layer node : ℕ) → layer ≤ length (domains_of store) → node < node_count (drop layer store) → IsIdAt store layer (record { layer = layer; node = node })
+unfolding IsNamed layer_of
+node_is_id store h layer node inside lt = (named_is_id store h (record { layer = layer; node = node }) (omega (arith, length-domains store), lt), refl)
+
+pub empty_is_id : (store : List Layer) (layer : ℕ) → IsLayered store → layer ≤ length (domains_of store) → IsIdAt store layer (record { layer = layer; node = 0 })
+empty_is_id store layer h inside = let two = two_nodes (drop layer store) (layered_drop layer store h) in node_is_id store h layer 0 inside (omega arith)
+
+pub empty_has : (store : List Layer) (layer : ℕ) → IsLayered store → (word : List ℕ) → has store (record { layer = layer; node = 0 }) word ≡ false
+unfolding has
+empty_has store layer h word = empty_node (drop layer store) (layered_drop layer store h) word
+
+pub full_is_id : (store : List Layer) (layer : ℕ) → IsLayered store → layer ≤ length (domains_of store) → IsIdAt store layer (record { layer = layer; node = 1 })
+full_is_id store layer h inside = node_is_id store h layer 1 inside (two_nodes (drop layer store) (layered_drop layer store h))
+
+pub full_has : (store : List Layer) (layer : ℕ) → IsLayered store → (word : List ℕ) → has store (record { layer = layer; node = 1 }) word ≡ is_word (drop layer (domains_of store)) word
+unfolding has domains_of
+full_has store layer h word = full_node (drop layer store) (layered_drop layer store h) word ∙ ap (λ d. is_word d word) (sym (domains_drop layer store))
+
 -- layers that grow keep sets
-pub grows_keeps : (old new : List Layer) → Grows old new → IsLayered old → Keeps old new
-unfolding has IsId domains_of
-grows_keeps old new g h = record {
+pub grows_keeps : (old new : List Layer) → Grows old new → IsLayered old → IsLayered new → Keeps old new
+unfolding has IsId IsNamed domains_of
+grows_keeps old new g h k = record {
   domains = grows_domains old new g;
-  ids = λ id is. let more = grows_count (drop id.layer old) (drop id.layer new) (grows_drop id.layer old new g) in (omega (arith, grows_length old new g, is.0), omega (arith, is.1));
-  sets = λ id is word. grows_accepts (drop id.layer old) (drop id.layer new) (grows_drop id.layer old new g) (layered_drop id.layer old h) id.node is.1 word;
+  ids = λ id is. let more = grows_count (drop id.layer old) (drop id.layer new) (grows_drop id.layer old new g) in named_is_id new k id (omega (arith, grows_length old new g, is.named.0), omega (arith, is.named.1));
+  sets = λ id is word. grows_accepts (drop id.layer old) (drop id.layer new) (grows_drop id.layer old new g) (layered_drop id.layer old h) id.node is.named.1 word;
 }
 
 pub keeps_same : (store : List Layer) → Keeps store store
@@ -123,11 +128,11 @@ pub record IsInner (store : List Layer) (id : Id) (layer : Layer) : Type 0 where
   pub row : IsRow layer.domain (node_count (drop (id.layer + 1) store)) (row_of layer id.node)
 
 pub inner_id : (store : List Layer) → IsLayered store → (id : Id) (d : Layer) → IsId store id → layer_of id < length (domains_of store) → IsInner store id (get_or store id.layer d)
-unfolding IsId layer_of domains_of
+unfolding IsId IsNamed layer_of domains_of
 inner_id store h id d is lt =
     let there : id.layer < length store = omega (arith, length-map store (λ layer. layer.domain)) in
     let s = stands_at store id.layer d h there in
-    let count : id.node < length (get_or store id.layer d).table = subst (λ l. id.node < node_count l) s.is_first is.1 in
+    let count : id.node < length (get_or store id.layer d).table = subst (λ l. id.node < node_count l) s.is_first is.named.1 in
     record { stands = s; node = count; row = s.is_layer.rows id.node [] count }
 
 pub inner_read : (store : List Layer) → IsLayered store → (id : Id) (layer : Layer) → layer ≡ get_or store id.layer layer → IsId store id → layer_of id < length (domains_of store) → IsInner store id layer
@@ -144,10 +149,10 @@ layer_inside store id lt = let same = length-domains store in omega arith
 -- the id of a child, and its words
 pub child_is_id : (store : List Layer) → IsLayered store → (id : Id) (layer : Layer) → IsInner store id layer → (value : ℕ) → value < layer.domain →
     IsIdAt store (layer_of id + 1) (record { layer = id.layer + 1; node = get_or (row_of layer id.node) value 0 })
-unfolding IsId layer_of
+unfolding IsNamed layer_of
 child_is_id store h id layer is value lt =
     let inside = is.stands.inside in
-    ((omega arith, is.row.within value 0 (omega (arith, is.row.width))), refl)
+    (named_is_id store h (record { layer = id.layer + 1; node = get_or (row_of layer id.node) value 0 }) (omega arith, is.row.within value 0 (omega (arith, is.row.width))), refl)
 
 pub child_has : (store : List Layer) (id : Id) (layer : Layer) → IsInner store id layer → (value : ℕ) (word : List ℕ) →
     has store (record { layer = id.layer + 1; node = get_or (row_of layer id.node) value 0 }) word ≡ has store id (value ∷ word)
@@ -164,14 +169,14 @@ row_fits (layer ∷ layers) (suc place) row lt width all =
 
 pub children_fit : (store : List Layer) (place : ℕ) (children : List Id) → place < length (domains_of store) → length children ≡ get_or (domains_of store) place 0 → All (IsIdAt store (place + 1)) children →
     RowFits store place (map (λ child. child.node) children)
-unfolding IsId layer_of domains_of
+unfolding IsId IsNamed layer_of domains_of
 children_fit store place children lt width all =
     row_fits store place (map (λ child. child.node) children) (omega (arith, length-map store (λ layer. layer.domain))) (length-map children (λ child. child.node) ∙ width)
     (λ k d below.
     let inside : k < length children = omega (arith, length-map children (λ child. child.node)) in
     let none : Id = record { layer = 0; node = d } in
     let child = all k none inside in
-    let count : (get_or children k none).node < node_count (drop (place + 1) store) = subst (λ l. (get_or children k none).node < node_count (drop l store)) child.1 child.0.1 in
+    let count : (get_or children k none).node < node_count (drop (place + 1) store) = subst (λ l. (get_or children k none).node < node_count (drop l store)) child.1 child.0.named.1 in
     subst (λ n. n < node_count (drop (place + 1) store)) (sym (get_or-map (λ (child : Id). child.node) children k none d inside)) count)
 
 layer_is : (id : Id) (place : ℕ) → layer_of id ≡ place → id.layer ≡ place
@@ -210,9 +215,19 @@ node_has old new place node children keeps h all row (value ∷ word) =
           ∙ ap (λ c. has_in old c word) (sym past.1)
     ]
 
+-- any two ids of one layer with the same words are one
+pub one_set : (store : List Layer) (a b : Id) → IsId store a → IsIdAt store (layer_of a) b → SameWords store a b → b ≡ a
+unfolding IsId
+one_set store a b is_a is_b same = is_a.once b is_b.0.named is_b.1 (λ word. sym (same word))
+
+-- the words of a set of a layer are words over the variables from there on
+pub words_are_over : (store : List Layer) (layer : ℕ) (id : Id) → IsIdAt store layer id → (word : List ℕ) → has store id word ≡ true → is_word (drop layer (domains_of store)) word ≡ true
+unfolding IsId
+words_are_over store layer id is word there = subst (λ l. is_word (drop l (domains_of store)) word ≡ true) is.1 (is.0.over word there)
+
 -- what equality of two ids of one layer tells
-pub same_when : (store : List Layer) → IsLayered store → (a b : Id) → IsId store a → IsIdAt store (layer_of a) b → (same : Bool) → same ≡ (nat_eq a.layer b.layer && nat_eq a.node b.node) → IsTrue same ↔ SameWords store a b
-same_when store h a b is_a is_b true e = (
+pub same_when : (store : List Layer) (a b : Id) → IsId store a → IsIdAt store (layer_of a) b → (same : Bool) → same ≡ (nat_eq a.layer b.layer && nat_eq a.node b.node) → IsTrue same ↔ SameWords store a b
+same_when store a b is_a is_b true e = (
   λ _ word.
       let parts = both_true_parts (nat_eq a.layer b.layer) (nat_eq a.node b.node) (sym e) in
       let l : a.layer ≡ b.layer = grind (arith, nat_tests) in
@@ -220,11 +235,11 @@ same_when store h a b is_a is_b true e = (
       ap (λ id. has store id word) (same_id a b l n),
   λ _. refl,
 )
-same_when store h a b is_a is_b false e = (
+same_when store a b is_a is_b false e = (
   λ no. absurd (true≢false (sym no)),
   λ same.
-      let one = one_id store h a b is_a is_b.0 (sym is_b.1) same in
-      absurd (true≢false (sym (ap (λ (id : Id). nat_eq a.layer id.layer && nat_eq a.node id.node) (sym one) ∙ both (nat_eq-same a.layer) (nat_eq-same a.node)) ∙ sym e)),
+      let one = one_set store a b is_a is_b same in
+      absurd (true≢false (sym (ap (λ (id : Id). nat_eq a.layer id.layer && nat_eq a.node id.node) one ∙ both (nat_eq-same a.layer) (nat_eq-same a.node)) ∙ sym e)),
 )
   where
     both : {x y : Bool} → x ≡ true → y ≡ true → (x && y) ≡ true
@@ -248,7 +263,7 @@ node_made old new place node children h lt width all grows row = record {
   keeps = keeps;
   is_id = is_id;
   words = node_has old new place node children keeps store.layered all row;
-  only = λ other is same. one_id new store.layered other (record { layer = place; node = node }) is.0 is_id.0 (is.1 ∙ sym is_id.1) same;
+  only = λ other is same. one_set new (record { layer = place; node = node }) other is_id.0 (is.0, is.1 ∙ sym is_id.1) (λ word. sym (same word));
 }
   where
     nodes : List ℕ
@@ -258,19 +273,19 @@ node_made old new place node children h lt width all grows row = record {
     store = subst IsStore (sym grows) (store_with old place nodes h (children_fit old place children lt width all))
 
     keeps : Keeps old new
-    keeps = grows_keeps old new (subst (Grows old) (sym grows) (grows_with old place nodes)) h.layered
+    keeps = grows_keeps old new (subst (Grows old) (sym grows) (grows_with old place nodes)) h.layered store.layered
 
     is_id : IsIdAt new place (record { layer = place; node = node })
-    is_id = node_is_id new place node (let same = ap length keeps.domains in omega arith) (row_stands new place node nodes row).0
+    is_id = node_is_id new store.layered place node (let same = ap length keeps.domains in omega arith) (row_stands new place node nodes row).0
 
 -- the layers of an id, and its node there
 pub id_inside : (store : List Layer) (id : Id) → IsId store id → id.layer ≤ length store
-unfolding IsId
-id_inside store id is = is.0
+unfolding IsId IsNamed
+id_inside store id is = is.named.0
 
 pub id_node : (store : List Layer) (id : Id) → IsId store id → id.node < node_count (drop id.layer store)
-unfolding IsId
-id_node store id is = is.1
+unfolding IsId IsNamed
+id_node store id is = is.named.1
 
 -- the size of a node's set is that of the id
 pub size_is : (store : List Layer) (id : Id) (layers : List Layer) → layers ≡ drop id.layer store → (n : Result ℕ NoMemory) → IfOk n (λ m. m ≡ size (map (λ layer. layer.domain) layers) (accepts layers id.node)) → IfOk n (λ m. m ≡ size (drop (layer_of id) (domains_of store)) (has store id))

@@ -1,5 +1,6 @@
 -- The sets of words that a store keeps.
-use Rattle.std.specs.Prelude.{◌≡◌, ℕ, ◌+◌, ◌<◌, ◌≤◌, List, [], ◌∷◌, Bool, false, Option, None, Some, length, map, drop, slice_get, slice_index}
+use Rattle.std.specs.Prelude.{◌≡◌, ℕ, ◌+◌, ◌<◌, ◌≤◌, List, [], ◌∷◌, Bool, true, false, Option, None, Some, length, map, drop, slice_get, slice_index}
+use Rattle.pc_diagram.specs.Words.{is_word}
 use Rattle.pc_store.specs.declared.id.Id.{Id}
 use Rattle.pc_store.specs.declared.id.Node.{Node}
 use Rattle.pc_store.specs.declared.layer.Layer.{Layer}
@@ -17,17 +18,9 @@ layer_of id = id.layer
 unfoldable pub id_at : ℕ → Node → Id
 id_at layer node = record { layer = layer; node = node.number }
 
--- an id of a store
-unfoldable pub IsId : List Layer → Id → Type 0
-IsId store id = (id.layer ≤ length store) × (id.node < node_count (drop id.layer store))
-
--- an id of one layer of a store
-abbrev pub IsIdAt : List Layer → ℕ → Id → Type 0
-IsIdAt store layer id = IsId store id × (layer_of id ≡ layer)
-
--- a node of one layer of a store
-abbrev pub IsNodeAt : List Layer → ℕ → Node → Type 0
-IsNodeAt store layer node = IsIdAt store layer (id_at layer node)
+-- an id names a node of one of the layers, or one past the last
+unfoldable pub IsNamed : List Layer → Id → Type 0
+IsNamed store id = (id.layer ≤ length store) × (id.node < node_count (drop id.layer store))
 
 -- the set of an id has a word
 unfoldable pub has : List Layer → Id → List ℕ → Bool
@@ -36,6 +29,25 @@ has store id word = accepts (drop id.layer store) id.node word
 -- two ids have the same words
 abbrev pub SameWords : List Layer → Id → Id → Type 0
 SameWords store a b = (word : List ℕ) → has store a word ≡ has store b word
+
+-- an id names a node, its words are words over the variables from its layer on, and no other id of its layer has the same
+-- words
+pub record NamesSet (store : List Layer) (id : Id) : Type 0 where
+  pub named : IsNamed store id
+  pub over : (word : List ℕ) → has store id word ≡ true → is_word (drop (layer_of id) (domains_of store)) word ≡ true
+  pub once : (other : Id) → IsNamed store other → layer_of other ≡ layer_of id → SameWords store other id → other ≡ id
+
+-- an id of a store
+unfoldable pub IsId : List Layer → Id → Type 0
+IsId store id = NamesSet store id
+
+-- an id of one layer of a store
+abbrev pub IsIdAt : List Layer → ℕ → Id → Type 0
+IsIdAt store layer id = IsId store id × (layer_of id ≡ layer)
+
+-- a node of one layer of a store
+abbrev pub IsNodeAt : List Layer → ℕ → Node → Type 0
+IsNodeAt store layer node = IsIdAt store layer (id_at layer node)
 
 -- from one state of a store to another, each id stays one and keeps its set
 pub record Keeps (old new : List Layer) : Type 0 where

@@ -5,6 +5,7 @@
 
 mod children;
 mod id;
+pub mod laws;
 mod layer;
 mod size;
 mod store;
@@ -13,6 +14,3 @@ mod table;
 pub use children::Children;
 pub use id::{Id, Node};
 pub use store::Store;
-
-#[cfg(test)]
-mod tests;

@@ -88,6 +88,7 @@ impl Store {
         ensures is_id { IsIdAt self.now layer result }
         ensures set { (word : List ℕ) → has self.now result word ≡ false }
     {
+        // The proof reads here what holds of every store.
         let _layers = &self.layers;
         Id { layer, node: EMPTY }
     }
@@ -97,7 +98,11 @@ impl Store {
         requires { layer ≤ length (domains_of self.now) }
         ensures is_id { IsIdAt self.now layer result }
         ensures set { (word : List ℕ) → has self.now result word ≡ is_word (drop layer (domains_of self.now)) word }
+        // No set of the layer has other words.
+        ensures most { (other : Id) → IsIdAt self.now layer other → (word : List ℕ) → has self.now other word ≡ true
+            → is_word (drop layer (domains_of self.now)) word ≡ true }
     {
+        // The proof reads here what holds of every store.
         let _layers = &self.layers;
         Id { layer, node: FULL }
     }
@@ -106,6 +111,8 @@ impl Store {
     pub fn full_end(&self) -> Id
         ensures is_id { IsIdAt self.now (length (domains_of self.now)) result }
         ensures set { (word : List ℕ) → IsTrue (has self.now result word) ↔ (word ≡ []) }
+        ensures only { (other : Id) → IsIdAt self.now (length (domains_of self.now)) other → (word : List ℕ)
+            → has self.now other word ≡ true → word ≡ [] }
     {
         self.full(self.variables())
     }
@@ -169,15 +176,6 @@ impl Store {
         requires second { IsIdAt self.now (layer_of a) b }
         ensures { IsTrue result ↔ SameWords self.now a b }
     {
-        let _layers = &self.layers;
         a == b
-    }
-
-    /// Tells a caller's proof what holds of every set: its words are words over the variables from its layer on.
-    pub fn words_are_over_domains(&self)
-        ensures { (id : Id) → IsId self.now id → (word : List ℕ) → has self.now id word ≡ true
-            → is_word (drop (layer_of id) (domains_of self.now)) word ≡ true }
-    {
-        let _layers = &self.layers;
     }
 }

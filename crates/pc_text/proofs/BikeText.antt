@@ -16,7 +16,7 @@ use Rattle.pc_rules.specs.declared.token.Sign.TheVariants.{Arrow, Equal, Open, C
 use Rattle.pc_rules.specs.declared.token.Token.TheVariants.{Mark, Word}
 use Rattle.pc_text.specs.Given.{catalogue_of}
 use Rattle.pc_rules.specs.Grammar as grammar
-use Rattle.pc_text.specs.LineWords.{words, first_word, from_word, after_word}
+use Rattle.pc_names.specs.LineWords.{words, first_word, from_word, after_word}
 use Rattle.pc_rules.specs.Naming.{named_step, variable_at, value_at}
 use Rattle.pc_rules.specs.Outcome.{Outcome}
 use Rattle.pc_rules.specs.RuleFaults.{fault_step, test_of, repeat_step}

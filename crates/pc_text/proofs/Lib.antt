@@ -1,8 +1,6 @@
 pub mod BikeText
 pub mod CrowdLemmas
 pub mod FaultLemmas
-pub mod LineLemmas
-pub mod LineWordLemmas
 pub mod Meanings
 pub mod NoFaultIsSpelled
 pub mod PrintedBytes

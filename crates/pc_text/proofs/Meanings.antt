@@ -11,12 +11,12 @@ use Rattle.pc_text.specs.declared.keyword.Keyword.{Keyword}
 use Rattle.pc_text.specs.declared.keyword.Keyword.TheVariants.{Product, Cost, Variable, Value, Rule as TheRule, End}
 use Rattle.pc_rules.specs.declared.kind.Kind.{Kind}
 use Rattle.pc_text.specs.Keyword.{keyword_of}
-use Rattle.pc_text.specs.LineWords.{words, first_word, after_word}
+use Rattle.pc_names.specs.LineWords.{words, first_word, after_word}
 use Rattle.pc_text.specs.Given.{catalogue_of, is_skipped, keyword_at, arguments_at}
 use Rattle.pc_rules.specs.RuleText.{rule_of}
 use Rattle.pc_text.specs.Statement.{Statement, header, a_cost, a_variable, a_value, a_rule, end, Says, value_words}
 use Rattle.pc_rules.proofs.RuleRead.{rule_of-read, rule_of-only}
-use Rattle.pc_text.proofs.LineWordLemmas.{Worded, bare, worded, cut_words, first_of_words}
+use Rattle.pc_names.proofs.LineWordLemmas.{Worded, bare, worded, cut_words, first_of_words}
 
 -- a keyword, words and what reading gives say a statement of a file of so many costs
 abbrev pub Means : ℕ → Option Keyword → List (List ℕ) → Result Rule Kind → Statement → Type 0

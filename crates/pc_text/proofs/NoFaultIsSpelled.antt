@@ -19,7 +19,7 @@ use Rattle.pc_file.specs.PrintedForm.{rule_line, value_line}
 use Rattle.pc_text.specs.declared.keyword.Keyword.{Keyword}
 use Rattle.pc_text.specs.declared.keyword.Keyword.TheVariants as keyword
 use Rattle.pc_rules.specs.declared.kind.Kind.{Kind}
-use Rattle.pc_text.specs.LineWords.{after_word}
+use Rattle.pc_names.specs.LineWords.{after_word}
 use Rattle.pc_text.specs.Given.{Given, nothing_given, variables_given, catalogue_of, is_skipped, keyword_at, arguments_at, argument, value_given, with_value, give_statement, contents_given, print_more}
 use Rattle.pc_text.specs.Orders.{comes_wrong, print_fault}
 use Rattle.pc_rules.specs.RuleText.{rule_of}

@@ -13,7 +13,7 @@ use Rattle.pc_file.specs.declared.variable.Variable.{Variable}
 use Rattle.pc_file.specs.Limits.{Contents, IsFile, is_sized, is_cost, is_value, is_variable, is_spelled, is_shallow, is_rule, value_names}
 use Rattle.pc_file.specs.PrintedRule.{printed_rule}
 use Rattle.pc_file.specs.PrintedForm.{header_line, cost_line, variable_line, value_line, rule_line, end_line, variable_lines, printed_lines, text_of_lines, printed}
-use Rattle.pc_rules.specs.Naming.{HoldsNames}
+use Rattle.pc_file.specs.Catalogue.{Indexes}
 use Rattle.pc_rules.specs.Nameable.{is_named, is_free, Nameable}
 use Rattle.pc_rules.specs.RuleText.{IsRuleText}
 use Rattle.pc_rules.proofs.PrintedFeeds.{rule_has_no_feed}
@@ -21,7 +21,7 @@ use Rattle.pc_rules.proofs.PrintedRuleText.{spaced_rule_spells}
 use Rattle.pc_text.specs.Given.{catalogue_of}
 use Rattle.pc_text.specs.FirstFault.{first_fault, given_by}
 use Rattle.pc_text.specs.Given.{contents_given}
-use Rattle.pc_text.specs.LineWords.{first_word, from_word, after_word}
+use Rattle.pc_names.specs.LineWords.{first_word, from_word, after_word}
 use Rattle.pc_text.specs.Named.{has_names}
 use Rattle.pc_text.specs.Spells.{is_small_line, is_significant, Spells}
 use Rattle.pc_text.specs.Statement.{Statement, header, a_cost, a_variable, a_value, a_rule, end, variable_statements, statements, value_words, Says}
@@ -102,8 +102,8 @@ module _ (file : Contents) (is : IsFile file) (named : has_names file ≡ true) 
     differ = is.names_differ;
   }
 
-  holds : HoldsNames (catalogue_of file.variables) file.variables
-  holds = record { of_variables = refl; of_values = refl }
+  holds : Indexes (catalogue_of file.variables) file.variables
+  holds = record { variables_are = refl; values_are = refl }
 
   abbrev rule_line_text : List ℕ → List ℕ
   rule_line_text text = 114 ∷ 117 ∷ 108 ∷ 101 ∷ 32 ∷ text

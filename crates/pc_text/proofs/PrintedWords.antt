@@ -15,8 +15,8 @@ use Rattle.pc_names.proofs.NumberText.{small}
 use Rattle.pc_file.specs.PrintedForm.{line_of}
 use Rattle.pc_rules.proofs.PrintedTokens.{is_word, name-word}
 use Rattle.pc_names.specs.Spaces.{is_space, goes_on}
-use Rattle.pc_text.specs.LineWords.{words}
-use Rattle.pc_text.proofs.LineWordLemmas.{words-nil, words-space, words-last, words-more}
+use Rattle.pc_names.specs.LineWords.{words}
+use Rattle.pc_names.proofs.LineWordLemmas.{words-nil, words-space, words-last, words-more}
 
 -- a byte of a word of a line
 abbrev is_inner : ℕ → Bool

@@ -6,7 +6,7 @@ use Rattle.std.proofs.lemmas.Bool.{cases_Bool, ltb-false, le-ltb, le-leb, leb-tr
 use Rattle.pc_base.specs.Lines.{lines}
 use Rattle.pc_base.proofs.DistinctLemmas.{both_true_parts, both_false_parts}
 use Rattle.pc_rules.specs.declared.kind.Kind.{Kind}
-use Rattle.pc_text.specs.LineWords.{after_word}
+use Rattle.pc_names.specs.LineWords.{after_word}
 use Rattle.pc_text.specs.Given.{Given, nothing_given, variables_given, catalogue_of, is_skipped, keyword_at, arguments_at, give_statement}
 use Rattle.pc_text.specs.Orders.{or_else, statement_fault}
 use Rattle.pc_rules.specs.RuleText.{rule_of}

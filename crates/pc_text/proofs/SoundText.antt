@@ -23,7 +23,7 @@ use Rattle.pc_names.proofs.NamesLemmas.{same_spelling-symmetric}
 use Rattle.pc_text.specs.declared.keyword.Keyword.{Keyword}
 use Rattle.pc_text.specs.declared.keyword.Keyword.TheVariants as keyword
 use Rattle.pc_rules.specs.declared.kind.Kind.{Kind}
-use Rattle.pc_text.specs.LineWords.{after_word}
+use Rattle.pc_names.specs.LineWords.{after_word}
 use Rattle.pc_text.specs.Given.{Given, nothing_given, variables_given, contents_given, catalogue_of, is_skipped, keyword_at, arguments_at, argument, value_given, with_value, give, give_rule, give_statement}
 use Rattle.pc_text.specs.Orders.{first_standing, is_wrong_header, comes_wrong, is_malformed, keeps_range, is_cost_text, has_wrong_number, is_one_too_many, is_repeated, orders, rule_fault, fault_of_rule, print_fault, or_else, statement_fault}
 use Rattle.pc_text.specs.FirstFault.{is_large, size_fault, line_fault, give_line, end_fault, at, or_later, fault_from, given_from, first_fault, given_by}
@@ -446,7 +446,7 @@ module _ (given : Given) (arguments : List (List ℕ)) (s : Sound given) where
 rules_keep : (variables : List Variable) (text : List ℕ) (rule : Rule) → rule_of (catalogue_of variables) text ≡ Ok rule → is_rule variables rule ≡ true
 rules_keep variables text rule read =
     let names = catalogue_of variables in
-    rule_fits names text rule variables (record { of_variables = refl; of_values = refl }) (rule_of-read names text rule read)
+    rule_fits names text rule variables (record { variables_are = refl; values_are = refl }) (rule_of-read names text rule read)
 
 given_line_by : (given : Given) (line : List ℕ) (skipped : Bool) → Sound given →
     cond skipped None (statement_fault given (keyword_at line) (arguments_at line) (rule_of (catalogue_of (variables_given given)) (after_word line))) ≡ None →

@@ -6,7 +6,7 @@ use Rattle.std.specs.List.{AllZip}
 use Rattle.pc_base.specs.Lines.{lines}
 use Rattle.pc_file.specs.Limits.{Contents, IsFile}
 use Rattle.pc_file.specs.PrintedSize.{IsPrintable}
-use Rattle.pc_text.specs.LineWords.{words, first_word, from_word}
+use Rattle.pc_names.specs.LineWords.{words, first_word, from_word}
 use Rattle.pc_text.specs.Statement.{Says, statements}
 use Rattle.pc_text.specs.Spells.{IsSmallText, Spells, significant_lines}
 

@@ -5,8 +5,8 @@ use Rattle.pc_names.specs.Name.{is_name}
 use Rattle.pc_file.specs.Limits.{is_reserved}
 use Rattle.std.specs.List.{list_all}
 use Rattle.pc_file.specs.declared.variable.Value.{Value}
-use Rattle.pc_rules.specs.declared.fault.RuleFault.{RuleFault}
-use Rattle.pc_rules.specs.declared.fault.RuleFault.TheVariants.{Fault}
+use Rattle.pc_text.specs.declared.statement_fault.StatementFault.{StatementFault}
+use Rattle.pc_text.specs.declared.statement_fault.StatementFault.TheVariants.{Fault}
 use Rattle.pc_rules.specs.declared.kind.Kind.TheVariants as kind
 use Rattle.pc_text.specs.Given.{argument, value_given}
 use Rattle.pc_text.specs.Orders.{is_cost_text}
@@ -34,7 +34,7 @@ abbrev pub has_costs : List (List ℕ) → Bool
 has_costs arguments = list_all is_cost_text (drop 1 arguments)
 
 -- the value that the arguments give, or the first of two faults
-abbrev pub IsValueOf : List (List ℕ) → ℕ → Result Value RuleFault → Type 0
+abbrev pub IsValueOf : List (List ℕ) → ℕ → Result Value StatementFault → Type 0
 IsValueOf arguments costs (Ok value) = (has_value_form arguments costs ≡ true) × (has_costs arguments ≡ true) × (value ≡ value_given arguments)
 IsValueOf arguments costs (Err (Fault kind.Value)) = has_value_form arguments costs ≡ false
 IsValueOf arguments costs (Err (Fault kind.Number)) = (has_value_form arguments costs ≡ true) × (has_costs arguments ≡ false)

@@ -1,13 +1,14 @@
 -- Where a text has more words than the plain list goes through.
 use Rattle.std.specs.Prelude.{ℕ, ◌+◌, ◌*◌, nat_lt, Bool, if◌then◌else◌, List, [], ◌∷◌, Option, Some, None}
 use Rattle.pc_base.specs.Lines.{lines}
+use Rattle.pc_file.specs.declared.sizes.TheConstants.{MOST_WORDS}
 use Rattle.pc_file.specs.Products.{value_counts, word_count}
 use Rattle.pc_text.specs.Given.{Given, nothing_given, variables_given}
 use Rattle.pc_text.specs.FirstFault.{give_line}
 
--- the numbers of values of the variables so far multiply to more than 65,536
+-- the numbers of values of the variables so far multiply to more words than the plain list goes through
 abbrev pub is_crowded : Given → Bool
-is_crowded given = nat_lt 65536 (word_count (value_counts (variables_given given)))
+is_crowded given = nat_lt MOST_WORDS (word_count (value_counts (variables_given given)))
 
 -- the first line, from one on, at which they do
 unfoldable pub crowded_from : Given → ℕ → List (List ℕ) → Option ℕ

@@ -5,14 +5,15 @@ use Rattle.pc_text.specs.declared.keyword.Keyword.{Keyword}
 use Rattle.pc_text.specs.declared.keyword.Keyword.TheVariants as keyword
 use Rattle.pc_rules.specs.declared.kind.Kind.{Kind}
 use Rattle.pc_rules.specs.declared.kind.Kind.TheVariants as kind
-use Rattle.pc_text.specs.LineWords.{after_word}
+use Rattle.pc_text.specs.declared.limits.TheConstants.{LINE_BYTES, LINES, TEXT_BYTES}
+use Rattle.pc_names.specs.LineWords.{after_word}
 use Rattle.pc_text.specs.Given.{Given, nothing_given, variables_given, catalogue_of, is_skipped, keyword_at, arguments_at, give_statement}
 use Rattle.pc_text.specs.Orders.{or_else, statement_fault}
 use Rattle.pc_rules.specs.RuleText.{rule_of}
 
--- a line has more than 65,536 bytes, or is line 8,193 or a later one, or ends, with its line feed, past byte 1,048,576
+-- a line has too many bytes, or is one line too many or a later one, or ends, with its line feed, past the last byte that a text may have
 abbrev pub is_large : ℕ → ℕ → List ℕ → Bool
-is_large number end line = nat_lt 65536 (length line) || nat_lt 8192 number || nat_lt 1048576 end
+is_large number end line = nat_lt LINE_BYTES (length line) || nat_lt LINES number || nat_lt TEXT_BYTES end
 
 abbrev pub size_fault : Bool → Option Kind
 size_fault large = if large then Some kind.Size else None

@@ -13,7 +13,7 @@ use Rattle.pc_text.specs.declared.keyword.Keyword.{Keyword}
 use Rattle.pc_text.specs.declared.keyword.Keyword.TheVariants as keyword
 use Rattle.pc_rules.specs.declared.kind.Kind.{Kind}
 use Rattle.pc_text.specs.Keyword.{keyword_of}
-use Rattle.pc_text.specs.LineWords.{words, first_word, after_word}
+use Rattle.pc_names.specs.LineWords.{words, first_word, after_word}
 
 -- The keyword of the last statement, the costs, the variables whose values are all given, the variable whose values are being given, and the rules; and the bytes
 -- of the printed lines of the statements, with their line feeds, or nothing where they break a limit of the printed form.

@@ -1,11 +1,12 @@
 pub mod Arguments
 pub mod Crowded
 pub mod FirstFault
+pub mod GivenVariables
 pub mod Given
 pub mod Keyword
-pub mod LineWords
 pub mod Named
 pub mod Orders
+pub mod Variables
 pub mod Reader
 pub mod Spells
 pub mod Statement

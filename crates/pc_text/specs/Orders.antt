@@ -3,6 +3,8 @@ use Rattle.std.specs.Prelude.{ℕ, ℤ, ◌+◌, nat_le, Bool, false, not, ◌&&
 use Rattle.std.specs.List.{list_all, list_any}
 use Rattle.pc_names.specs.Name.{is_name}
 use Rattle.pc_names.specs.Number.{int_of}
+use Rattle.pc_diagram.specs.declared.limits.TheConstants.{MOST_VALUES, MOST_VARIABLES}
+use Rattle.pc_file.specs.declared.sizes.TheConstants.{MOST_COSTS, MOST_RULES}
 use Rattle.pc_file.specs.declared.rule.Rule.{Rule}
 use Rattle.pc_file.specs.declared.variable.Variable.{Variable}
 use Rattle.pc_file.specs.Limits.{is_cost, is_reserved, variable_names, value_names}
@@ -50,7 +52,7 @@ abbrev pub keeps_range : Option ℤ → Bool
 keeps_range None = false
 keeps_range (Some number) = is_cost number
 
--- a number from -1,000,000,000 to 1,000,000,000
+-- a number in the range of costs
 abbrev pub is_cost_text : List ℕ → Bool
 is_cost_text word = keeps_range (int_of word)
 
@@ -63,12 +65,12 @@ abbrev pub values_in : Option Variable → List (List ℕ)
 values_in None = []
 values_in (Some variable) = value_names variable
 
--- the third cost, the 65th variable, the 65th value of its variable, the 1,025th rule
+-- one cost, variable, value of its variable or rule more than there may be
 abbrev pub is_one_too_many : Given → Option Keyword → Bool
-is_one_too_many given (Some keyword.Cost) = nat_le 2 (length given.costs)
-is_one_too_many given (Some keyword.Variable) = nat_le 64 (length (variables_given given))
-is_one_too_many given (Some keyword.Value) = nat_le 64 (length (values_in given.open_variable))
-is_one_too_many given (Some keyword.Rule) = nat_le 1024 (length given.rules)
+is_one_too_many given (Some keyword.Cost) = nat_le MOST_COSTS (length given.costs)
+is_one_too_many given (Some keyword.Variable) = nat_le MOST_VARIABLES (length (variables_given given))
+is_one_too_many given (Some keyword.Value) = nat_le MOST_VALUES (length (values_in given.open_variable))
+is_one_too_many given (Some keyword.Rule) = nat_le MOST_RULES (length given.rules)
 is_one_too_many given word = false
 
 -- the name was given before in its place

@@ -4,17 +4,18 @@ use Rattle.std.specs.List.{list_all, filter, AllZip}
 use Rattle.pc_base.specs.Lines.{lines}
 use Rattle.pc_file.specs.Limits.{Contents, IsFile}
 use Rattle.pc_text.specs.declared.text_fault.TextFault.{TextFault}
+use Rattle.pc_text.specs.declared.limits.TheConstants.{LINE_BYTES, LINES, TEXT_BYTES}
 use Rattle.pc_text.specs.declared.text_fault.TextFault.TheVariants.{At, NoMemory}
 use Rattle.pc_text.specs.Given.{is_skipped}
 use Rattle.pc_text.specs.Statement.{statements, Says}
 
 abbrev pub is_small_line : List ℕ → Bool
-is_small_line line = nat_le (length line) 65536
+is_small_line line = nat_le (length line) LINE_BYTES
 
--- a text has at most 1,048,576 bytes and at most 8,192 lines, each of at most 65,536 bytes
+-- a text has not too many bytes, nor lines, and none of its lines has
 pub record IsSmallText (text : List ℕ) : Type 0 where
-  pub bytes_at_most : length text ≤ 1048576
-  pub lines_at_most : length (lines text) ≤ 8192
+  pub bytes_at_most : length text ≤ TEXT_BYTES
+  pub lines_at_most : length (lines text) ≤ LINES
   pub each_line : list_all is_small_line (lines text) ≡ true
 
 -- the line counts: it has words, and the first doesn't begin with `#`

@@ -7,7 +7,7 @@ use Rattle.pc_file.specs.declared.rule.Rule.{Rule}
 use Rattle.pc_file.specs.declared.variable.Value.{Value}
 use Rattle.pc_file.specs.declared.variable.Variable.{Variable}
 use Rattle.pc_file.specs.Limits.{Contents}
-use Rattle.pc_text.specs.LineWords.{words, first_word, after_word}
+use Rattle.pc_names.specs.LineWords.{words, first_word, after_word}
 use Rattle.pc_text.specs.Given.{catalogue_of}
 use Rattle.pc_rules.specs.RuleText.{IsRuleText}
 

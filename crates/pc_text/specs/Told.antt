@@ -1,21 +1,28 @@
 -- What a function of the reader tells, set beside what reading gives. Want of memory tells nothing.
 use Rattle.std.specs.Prelude.{◌≡◌, ℕ, Option, Some, None, Result, Ok, Err}
+use Rattle.pc_text.specs.declared.statement_fault.StatementFault.{StatementFault}
+use Rattle.pc_text.specs.declared.statement_fault.StatementFault.TheVariants.{Fault, NoMemory}
 use Rattle.pc_rules.specs.declared.fault.RuleFault.{RuleFault}
-use Rattle.pc_rules.specs.declared.fault.RuleFault.TheVariants.{Fault, NoMemory}
+use Rattle.pc_rules.specs.declared.fault.RuleFault.TheVariants as rule
 use Rattle.pc_rules.specs.declared.kind.Kind.{Kind}
 use Rattle.pc_text.specs.declared.text_fault.TextFault.{TextFault}
 use Rattle.pc_text.specs.declared.text_fault.TextFault.TheVariants.{At}
 use Rattle.pc_text.specs.declared.text_fault.TextFault.TheVariants as text
 
--- no fault, and then P; or the first fault of this kind
-abbrev pub Answers : Result (Unit {0}) RuleFault → Option Kind → Type 0 → Type 0
-Answers (Ok done) fault P = (fault ≡ None) × P
+-- the fault of a statement whose rule has this one
+abbrev pub of_rule : RuleFault → StatementFault
+of_rule (rule.Fault kind) = Fault kind
+of_rule rule.NoMemory = NoMemory
+
+-- no fault, and a value of which P holds; or the first fault of this kind
+abbrev pub Answers : {X : Type 0} → Result X StatementFault → Option Kind → (X → Type 0) → Type 0
+Answers (Ok x) fault P = (fault ≡ None) × P x
 Answers (Err (Fault kind)) fault P = fault ≡ Some kind
 Answers (Err NoMemory) fault P = Unit {0}
 
--- no fault, and then P; or the first fault, told with the number of its line
-abbrev pub AnswersAt : ℕ → Result (Unit {0}) TextFault → Option Kind → Type 0 → Type 0
-AnswersAt number (Ok done) fault P = (fault ≡ None) × P
+-- no fault, and a value of which P holds; or the first fault, told with the number of its line
+abbrev pub AnswersAt : {X : Type 0} → ℕ → Result X TextFault → Option Kind → (X → Type 0) → Type 0
+AnswersAt number (Ok x) fault P = (fault ≡ None) × P x
 AnswersAt number (Err (At line kind)) fault P = (line ≡ number) × (fault ≡ Some kind)
 AnswersAt number (Err text.NoMemory) fault P = Unit {0}
 

@@ -4,16 +4,13 @@ ghost use Rattle.std.specs.Prelude.{◌≡◌, ◌≤◌, ◌<◌, MatchOption};
 ghost use Rattle.pc_file.specs.Products.{value_counts};
 ghost use Rattle.pc_text.specs.Crowded.{words_before};
 
-use pc_file::Variable;
-
-/// The most words that the plain list of products goes through.
-const MOST_WORDS: usize = 65_536;
+use pc_file::{MOST_WORDS, Variable};
 
 /// How many words there are over these variables, each of which goes on in `more` ways, where there are at most
-/// 65,536.
+/// `MOST_WORDS`.
 pub fn words_before(variables: &[Variable], more: usize) -> Option<usize>
-    ensures { MatchOption result (65536 < words_before (value_counts variables.now) more)
-        (λ count. (count ≡ words_before (value_counts variables.now) more) × (count ≤ 65536)) }
+    ensures { MatchOption result (MOST_WORDS < words_before (value_counts variables.now) more)
+        (λ count. (count ≡ words_before (value_counts variables.now) more) × (count ≤ MOST_WORDS)) }
 {
     let Some((variable, others)) = variables.split_first() else {
         return (more <= MOST_WORDS).then_some(more);

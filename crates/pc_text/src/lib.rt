@@ -3,19 +3,21 @@
 //! printed form, which spells it and no other file.
 #![tactic(auto)]
 
+mod arguments;
 mod crowding;
 mod keyword;
-mod laws;
+pub mod laws;
+mod limits;
 mod line_words;
-mod lines;
 mod reader;
 mod reading;
-mod statement;
+mod statement_fault;
 mod text;
 mod text_fault;
+mod variables;
 mod writer;
 
-pub use laws::{printed_form_spells_file, text_tells_file};
+pub use limits::{LINE_BYTES, LINES, TEXT_BYTES};
 pub use pc_rules::Kind;
 pub use text::{crowded_line, read_file};
 pub use text_fault::TextFault;

@@ -1,21 +1,11 @@
 //! The words of a line.
 
 ghost use Rattle.std.specs.Prelude.{◌≡◌, map, IfOk};
-ghost use Rattle.pc_text.specs.LineWords.{words, from_word, first_word, after_word};
+ghost use Rattle.pc_names.specs.LineWords.{words};
 
 use pc_base::NoMemory;
-use pc_names::{space_place, word_place};
+use pc_names::cut_word;
 use std::alloc::Global;
-
-#[tactic(auto, unfolding(crate::specs::LineWords::first_word, crate::specs::LineWords::after_word))]
-/// The first word of a line, empty where it has none, and the bytes after that word.
-pub fn cut_word(line: &[u8]) -> (&[u8], &[u8])
-    ensures word { result.0.now ≡ first_word line.now }
-    ensures after { result.1.now ≡ after_word line.now }
-{
-    let bytes = from_word(line);
-    bytes.split_at(space_place(bytes))
-}
 
 /// The words of a line, in order.
 pub fn words(alloc: Global, line: &[u8]) -> Result<Vec<&[u8]>, NoMemory>
@@ -31,11 +21,4 @@ pub fn words(alloc: Global, line: &[u8]) -> Result<Vec<&[u8]>, NoMemory>
         found.push(word)?;
         rest = after;
     }
-}
-
-#[tactic(auto, unfolding(crate::specs::LineWords::from_word))]
-fn from_word(line: &[u8]) -> &[u8]
-    ensures { result.now ≡ from_word line.now }
-{
-    &line[word_place(line)..]
 }

@@ -14,106 +14,73 @@ ghost use Rattle.pc_text.specs.FirstFault.{line_fault, give_line};
 ghost use Rattle.std.specs.Option.{option_to_list};
 ghost use Rattle.pc_file.specs.Products.{value_counts, word_count};
 ghost use Rattle.pc_text.specs.Crowded.{is_crowded};
-ghost use Rattle.pc_text.specs.LineWords.{words};
+ghost use Rattle.pc_names.specs.LineWords.{words};
 ghost use Rattle.pc_rules.specs.declared.kind.Kind.TheVariants.{Header};
 ghost use Rattle.pc_rules.specs.RuleText.{rule_of};
 ghost use Rattle.pc_text.specs.Told.{Answers};
 ghost use Rattle.pc_text.specs.declared.keyword.Keyword.TheVariants as keyword;
 
+use crate::arguments::{argument, only_free_name, only_name, value_of};
 use crate::crowding::words_before;
 use crate::keyword::Keyword;
-use crate::line_words::{cut_word, words};
-use crate::statement::is_cost_text;
-use pc_base::{NoMemory, Sequence};
+use crate::line_words::words;
+use crate::statement_fault::StatementFault;
+use crate::variables::Variables;
+use pc_base::Sequence;
 use pc_file::{
-    Catalogue, File, FileFault, Rule, Value, Variable, cost_line_size, end_line_size,
-    header_line_size, is_reserved, rule_line_size, value_line_size, variable_line_size, with_line,
+    File, FileFault, MOST_COSTS, MOST_RULES, Rule, cost_line_size, end_line_size, header_line_size,
+    rule_line_size, value_line_size, variable_line_size, with_line,
 };
-use pc_names::{Name, Names, read_int};
-use pc_rules::{Kind, RuleFault, read_rule};
+use pc_names::{Name, cut_word};
+use pc_rules::{Kind, read_rule};
 use std::alloc::Global;
 
-/// The variable whose values are being given.
-#[derive(Debug, Drop)]
-struct OpenVariable {
-    name: Name,
-    values: Sequence<Value>,
-    names: Names,
-}
-
-impl OpenVariable {
-    ghost use Rattle.pc_text.specs.Reader.{opened, IsListed, open_faults};
-
-    /// Puts a value at the end.
-    fn add(&mut self, value: Value) -> Result<(), RuleFault>
-        requires { IsListed self.old }
-        ensures { Answers result (first_standing (open_faults (opened self.old) value.name))
-            (IsListed self.new × (opened self.new ≡ with_value value (opened self.old))) }
-    {
-        if self.values.len() >= 64 {
-            return Err(RuleFault::Fault(Kind::Size));
-        }
-        if !self.names.add(value.name)? {
-            return Err(RuleFault::Fault(Kind::Repeat));
-        }
-        self.values.push(value)?;
-        Ok(())
-    }
-}
-
-/// What the statements so far give, with the names found by their hashes, and the bytes of their printed lines with
-/// the line feeds.
+/// What the statements so far give, and the bytes of their printed lines with the line feeds.
 #[derive(Debug, Drop)]
 pub struct Reader {
     last: Option<Keyword>,
     costs: Sequence<Name>,
-    closed: Sequence<Variable>,
-    open_variable: Option<OpenVariable>,
+    variables: Variables,
     rules: Sequence<Rule>,
-    names: Catalogue,
     printed: usize,
 }
 
 impl Reader {
     ghost use Rattle.pc_text.specs.Given.{nothing_given};
-    ghost use Rattle.pc_text.specs.Reader.{IsIndexed, Holds, given_of};
+    ghost use Rattle.pc_text.specs.Reader.{given_of};
 
     /// Before the first statement.
     pub fn new(alloc: Global) -> Reader
-        ensures { Holds result nothing_given }
+        ensures { given_of result ≡ nothing_given }
     {
         Reader {
             last: None,
             costs: Sequence::new(alloc),
-            closed: Sequence::new(alloc),
-            open_variable: None,
+            variables: Variables::new(alloc),
             rules: Sequence::new(alloc),
-            names: Catalogue::new(alloc),
             printed: 0,
         }
     }
 
-    /// The next line of the text. After an answer other than `Ok` the reader is of no more use.
+    /// What the statements give with the next line of the text.
     #[tactic(auto, unfolding(crate::specs::FirstFault::line_fault, crate::specs::FirstFault::give_line))]
-    pub fn take_line(&mut self, alloc: Global, line: &[u8]) -> Result<(), RuleFault>
-        requires { IsIndexed self.old }
-        ensures { Answers result (line_fault (given_of self.old) line.now) (Holds self.new (give_line (given_of self.old) line.now)) }
+    pub fn take_line(self, alloc: Global, line: &[u8]) -> Result<Reader, StatementFault>
+        ensures { Answers result (line_fault (given_of self) line.now) (λ reader. given_of reader ≡ give_line (given_of self) line.now) }
     {
         let (word, text) = cut_word(line);
         if is_skipped(word) {
-            return Ok(());
+            return Ok(self);
         }
         self.take_statement(alloc, Keyword::read(word), text)
     }
 
     /// The file that all statements give.
-    pub fn into_file(mut self, alloc: Global) -> Result<File, FileFault>
-        requires { IsIndexed self }
+    pub fn into_file(self, alloc: Global) -> Result<File, FileFault>
         ensures file { IfOk result (λ file. file ≡ contents_given (given_of self)) }
         ensures limit { IsErrOf result FileFault.Limit → ¬ IsFile (contents_given (given_of self)) }
     {
-        self.close()?;
-        File::new(alloc, self.costs, self.closed, self.rules)
+        let variables = self.variables.close()?.into_closed();
+        File::new(alloc, self.costs, variables, self.rules)
     }
 
     /// The keyword of the last statement.
@@ -123,68 +90,55 @@ impl Reader {
         self.last
     }
 
-    /// Whether the numbers of values of the variables so far multiply to more than 65,536.
+    /// Whether the numbers of values of the variables so far multiply to more than `MOST_WORDS`.
     pub fn is_crowded(&self) -> bool
         ensures { result ≡ is_crowded (given_of self.now) }
     {
-        match words_before(self.closed.as_slice(), self.open_values()) {
+        match words_before(self.variables.closed(), self.variables.open_values()) {
             Some(_) => false,
             None => true,
         }
     }
 
-    /// In how many ways a word goes on over the open variable.
-    fn open_values(&self) -> usize
-        ensures { result ≡ word_count (value_counts (option_to_list (given_of self.now).open_variable)) }
-    {
-        match &self.open_variable {
-            None => 1,
-            Some(variable) => variable.values.len(),
-        }
-    }
-
     /// A line that isn't skipped, by its keyword and the bytes after that.
     fn take_statement(
-        &mut self,
+        self,
         alloc: Global,
         word: Option<Keyword>,
         text: &[u8],
-    ) -> Result<(), RuleFault>
-        requires { IsIndexed self.old }
-        ensures { let given = given_of self.old in let rule = rule_of (catalogue_of (variables_given given)) text.now in
-            Answers result (statement_fault given word (words text.now) rule) (Holds self.new (give_statement given word (words text.now) rule)) }
+    ) -> Result<Reader, StatementFault>
+        ensures { let given = given_of self in let rule = rule_of (catalogue_of (variables_given given)) text.now in
+            Answers result (statement_fault given word (words text.now) rule) (λ reader. given_of reader ≡ give_statement given word (words text.now) rule) }
     {
         match (self.last, word) {
             (None, Some(Keyword::Product)) => self.take_header(&words(alloc, text)?),
-            (None, _) => Err(RuleFault::Fault(Kind::Header)),
+            (None, _) => Err(StatementFault::Fault(Kind::Header)),
             (Some(last), Some(next)) if last.may_precede(Some(next)) => {
                 self.take_allowed(alloc, next, text)
             }
-            (Some(last), _) => Err(RuleFault::Fault(last.expected())),
+            (Some(last), _) => Err(StatementFault::Fault(last.expected())),
         }
     }
 
     /// A first line that begins with `product`.
-    fn take_header(&mut self, arguments: &[&[u8]]) -> Result<(), RuleFault>
-        requires { IsIndexed self.old }
+    fn take_header(mut self, arguments: &[&[u8]]) -> Result<Reader, StatementFault>
         ensures { Answers result (or_else (first_standing ((not ((length (bytes arguments.now) == 1) && same_spelling (argument (bytes arguments.now) 0) (codes "1")), Header) ∷ []))
-            (print_fault (give (given_of self.old) (Some Keyword.Product) (bytes arguments.now)).printed))
-            (Holds self.new (give (given_of self.old) (Some Keyword.Product) (bytes arguments.now))) }
+            (print_fault (give (given_of self) (Some Keyword.Product) (bytes arguments.now)).printed))
+            (λ reader. given_of reader ≡ give (given_of self) (Some Keyword.Product) (bytes arguments.now)) }
     {
         if arguments.len() != 1 || argument(arguments, 0) != b"1".as_slice() {
-            return Err(RuleFault::Fault(Kind::Header));
+            return Err(StatementFault::Fault(Kind::Header));
         }
         self.last = Some(Keyword::Product);
         self.print(header_line_size())
     }
 
     /// A statement that may come here.
-    fn take_allowed(&mut self, alloc: Global, word: Keyword, text: &[u8]) -> Result<(), RuleFault>
-        requires { IsIndexed self.old }
-        ensures { let given = given_of self.old in let rule = rule_of (catalogue_of (variables_given given)) text.now in
+    fn take_allowed(mut self, alloc: Global, word: Keyword, text: &[u8]) -> Result<Reader, StatementFault>
+        ensures { let given = given_of self in let rule = rule_of (catalogue_of (variables_given given)) text.now in
             Answers result (or_else (first_standing (orders_within given (Some word) (words text.now)))
             (or_else (fault_of_rule (Some word) rule) (print_fault (give_statement given (Some word) (words text.now) rule).printed)))
-            (Holds self.new (give_statement given (Some word) (words text.now) rule)) }
+            (λ reader. given_of reader ≡ give_statement given (Some word) (words text.now) rule) }
     {
         match word {
             Keyword::Product => {
@@ -199,36 +153,18 @@ impl Reader {
         }
     }
 
-    /// Closes the variable whose values are being given, if there is one.
-    fn close(&mut self) -> Result<(), NoMemory>
-        requires { IsIndexed self.old }
-        ensures { OnOk result (Holds self.new (record (given_of self.old) { closed = variables_given (given_of self.old); open_variable = None })) }
-    {
-        if let Some(variable) = self.open_variable.take() {
-            let OpenVariable {
-                name,
-                values,
-                names,
-            } = variable;
-            self.names.values.push(names)?;
-            self.closed.push(Variable { name, values })?;
-        }
-        Ok(())
-    }
-
     /// A line `cost NAME`.
-    fn take_cost(&mut self, arguments: &[&[u8]]) -> Result<(), RuleFault>
-        requires { IsIndexed self.old }
-        ensures { Answers result (or_else (first_standing (orders_within (given_of self.old) (Some Keyword.Cost) (bytes arguments.now)))
-            (print_fault (give (given_of self.old) (Some Keyword.Cost) (bytes arguments.now)).printed))
-            (Holds self.new (give (given_of self.old) (Some Keyword.Cost) (bytes arguments.now))) }
+    fn take_cost(mut self, arguments: &[&[u8]]) -> Result<Reader, StatementFault>
+        ensures { Answers result (or_else (first_standing (orders_within (given_of self) (Some Keyword.Cost) (bytes arguments.now)))
+            (print_fault (give (given_of self) (Some Keyword.Cost) (bytes arguments.now)).printed))
+            (λ reader. given_of reader ≡ give (given_of self) (Some Keyword.Cost) (bytes arguments.now)) }
     {
-        let name = only_name(arguments).ok_or(RuleFault::Fault(Kind::Cost))?;
-        if self.costs.len() >= 2 {
-            return Err(RuleFault::Fault(Kind::Size));
+        let name = only_name(arguments).ok_or(StatementFault::Fault(Kind::Cost))?;
+        if self.costs.len() >= MOST_COSTS {
+            return Err(StatementFault::Fault(Kind::Size));
         }
         if self.has_cost(&name) {
-            return Err(RuleFault::Fault(Kind::Repeat));
+            return Err(StatementFault::Fault(Kind::Repeat));
         }
         self.costs.push(name)?;
         self.last = Some(Keyword::Cost);
@@ -236,86 +172,68 @@ impl Reader {
     }
 
     /// A line `variable NAME`.
-    fn take_variable(&mut self, alloc: Global, arguments: &[&[u8]]) -> Result<(), RuleFault>
-        requires { IsIndexed self.old }
-        ensures { Answers result (or_else (first_standing (orders_within (given_of self.old) (Some Keyword.Variable) (bytes arguments.now)))
-            (print_fault (give (given_of self.old) (Some Keyword.Variable) (bytes arguments.now)).printed))
-            (Holds self.new (give (given_of self.old) (Some Keyword.Variable) (bytes arguments.now))) }
+    fn take_variable(mut self, alloc: Global, arguments: &[&[u8]]) -> Result<Reader, StatementFault>
+        ensures { Answers result (or_else (first_standing (orders_within (given_of self) (Some Keyword.Variable) (bytes arguments.now)))
+            (print_fault (give (given_of self) (Some Keyword.Variable) (bytes arguments.now)).printed))
+            (λ reader. given_of reader ≡ give (given_of self) (Some Keyword.Variable) (bytes arguments.now)) }
     {
-        let name = only_free_name(arguments).ok_or(RuleFault::Fault(Kind::Variable))?;
-        self.close()?;
-        if self.closed.len() >= 64 {
-            return Err(RuleFault::Fault(Kind::Size));
-        }
-        if !self.names.variables.add(name)? {
-            return Err(RuleFault::Fault(Kind::Repeat));
-        }
-        self.open_variable = Some(OpenVariable {
-            name,
-            values: Sequence::new(alloc),
-            names: Names::new(alloc),
-        });
+        let name = only_free_name(arguments).ok_or(StatementFault::Fault(Kind::Variable))?;
+        self.variables = self.variables.begin(alloc, name)?;
         self.last = Some(Keyword::Variable);
         self.print(variable_line_size(&name))
     }
 
     /// A line `value NAME NUMBER` or `value NAME NUMBER NUMBER`.
-    fn take_value(&mut self, arguments: &[&[u8]]) -> Result<(), RuleFault>
-        requires { IsIndexed self.old }
-        ensures { Answers result (or_else (first_standing (orders_within (given_of self.old) (Some Keyword.Value) (bytes arguments.now)))
-            (print_fault (give (given_of self.old) (Some Keyword.Value) (bytes arguments.now)).printed))
-            (Holds self.new (give (given_of self.old) (Some Keyword.Value) (bytes arguments.now))) }
+    fn take_value(mut self, arguments: &[&[u8]]) -> Result<Reader, StatementFault>
+        ensures { Answers result (or_else (first_standing (orders_within (given_of self) (Some Keyword.Value) (bytes arguments.now)))
+            (print_fault (give (given_of self) (Some Keyword.Value) (bytes arguments.now)).printed))
+            (λ reader. given_of reader ≡ give (given_of self) (Some Keyword.Value) (bytes arguments.now)) }
     {
         let value = value_of(arguments, self.costs.len())?;
         let size = value_line_size(self.costs.len(), &value);
-        if let Some(variable) = &mut self.open_variable {
-            variable.add(value)?;
-        }
+        self.variables = self.variables.with_value(value)?;
         self.last = Some(Keyword::Value);
         self.print(size)
     }
 
     /// A line `end`.
-    fn take_end(&mut self, arguments: &[&[u8]]) -> Result<(), RuleFault>
-        requires { IsIndexed self.old }
-        ensures { Answers result (or_else (first_standing (orders_within (given_of self.old) (Some Keyword.End) (bytes arguments.now)))
-            (print_fault (give (given_of self.old) (Some Keyword.End) (bytes arguments.now)).printed))
-            (Holds self.new (give (given_of self.old) (Some Keyword.End) (bytes arguments.now))) }
+    fn take_end(mut self, arguments: &[&[u8]]) -> Result<Reader, StatementFault>
+        ensures { Answers result (or_else (first_standing (orders_within (given_of self) (Some Keyword.End) (bytes arguments.now)))
+            (print_fault (give (given_of self) (Some Keyword.End) (bytes arguments.now)).printed))
+            (λ reader. given_of reader ≡ give (given_of self) (Some Keyword.End) (bytes arguments.now)) }
     {
         if !arguments.is_empty() {
-            return Err(RuleFault::Fault(Kind::End));
+            return Err(StatementFault::Fault(Kind::End));
         }
-        self.close()?;
+        self.variables = self.variables.close()?;
         self.last = Some(Keyword::End);
         self.print(end_line_size())
     }
 
     /// A line that begins with `rule`.
-    fn take_rule(&mut self, alloc: Global, text: &[u8]) -> Result<(), RuleFault>
-        requires { IsIndexed self.old }
-        ensures { let rule = rule_of (catalogue_of (variables_given (given_of self.old))) text.now in
-            Answers result (or_else (first_standing (orders_within (given_of self.old) (Some Keyword.Rule) []))
-            (or_else (rule_fault rule) (print_fault (give_rule (given_of self.old) rule).printed)))
-            (Holds self.new (give_rule (given_of self.old) rule)) }
+    fn take_rule(mut self, alloc: Global, text: &[u8]) -> Result<Reader, StatementFault>
+        ensures { let rule = rule_of (catalogue_of (variables_given (given_of self))) text.now in
+            Answers result (or_else (first_standing (orders_within (given_of self) (Some Keyword.Rule) []))
+            (or_else (rule_fault rule) (print_fault (give_rule (given_of self) rule).printed)))
+            (λ reader. given_of reader ≡ give_rule (given_of self) rule) }
     {
-        if self.rules.len() >= 1024 {
-            return Err(RuleFault::Fault(Kind::Size));
+        if self.rules.len() >= MOST_RULES {
+            return Err(StatementFault::Fault(Kind::Size));
         }
-        self.close()?;
-        let rule = read_rule(alloc, &self.names, text)?;
-        let size = rule_line_size(self.closed.as_slice(), &rule);
+        self.variables = self.variables.close()?;
+        let rule = read_rule(alloc, self.variables.names(), text)?;
+        let size = rule_line_size(self.variables.closed(), &rule);
         self.rules.push(rule)?;
         self.last = Some(Keyword::Rule);
         self.print(size)
     }
 
     /// Counts the printed line of a statement, of so many bytes.
-    fn print(&mut self, size: usize) -> Result<(), RuleFault>
-        requires { IsIndexed self.old }
-        ensures { Answers result (print_fault (with_line self.old.printed size)) (Holds self.new (record (given_of self.old) { printed = with_line self.old.printed size })) }
+    fn print(mut self, size: usize) -> Result<Reader, StatementFault>
+        ensures { Answers result (print_fault (with_line self.printed size)) (λ reader. given_of reader ≡ record (given_of self) { printed = with_line self.printed size }) }
     {
-        self.printed = with_line(self.printed, size).ok_or(RuleFault::Fault(Kind::Size))?;
-        Ok(())
+        self.printed = with_line(self.printed, size).ok_or(StatementFault::Fault(Kind::Size))?;
+        Ok(self)
     }
 
     fn has_cost(&self, name: &Name) -> bool
@@ -330,74 +248,4 @@ fn is_skipped(word: &[u8]) -> bool
     ensures { result ≡ ((length word.now == 0) || (slice_index word.now 0 == 35)) }
 {
     word.is_empty() || word[0] == b'#'
-}
-
-/// The one argument, if there is no other and it spells a name.
-fn only_name(arguments: &[&[u8]]) -> Option<Name>
-    ensures { IsOnlyName (bytes arguments.now) result }
-{
-    match arguments {
-        [name] => Name::read(name).ok(),
-        _ => None,
-    }
-}
-
-/// The one argument, if there is no other and it spells a name that a variable may have.
-fn only_free_name(arguments: &[&[u8]]) -> Option<Name>
-    ensures { IsOnlyFreeName (bytes arguments.now) result }
-{
-    let name = only_name(arguments)?;
-    (!is_reserved(name.as_bytes())).then_some(name)
-}
-
-/// The value that a name and a number for each cost give.
-fn value_of(arguments: &[&[u8]], costs: usize) -> Result<Value, RuleFault>
-    ensures { IsValueOf (bytes arguments.now) costs result }
-{
-    if arguments.is_empty() || arguments.len() - 1 != costs {
-        return Err(RuleFault::Fault(Kind::Value));
-    }
-    let name = Name::read(argument(arguments, 0)).or(Err(RuleFault::Fault(Kind::Value)))?;
-    if !are_costs(&arguments[1..]) {
-        return Err(RuleFault::Fault(Kind::Number));
-    }
-    Ok(Value {
-        name,
-        first: number_at(arguments, 1),
-        second: number_at(arguments, 2),
-    })
-}
-
-/// The argument at a place, or nothing.
-fn argument<'a>(arguments: &[&'a [u8]], place: usize) -> &'a [u8]
-    ensures { result.now ≡ argument (bytes arguments.now) place }
-{
-    match arguments.get(place) {
-        Some(word) => word,
-        None => &[],
-    }
-}
-
-fn are_costs(words: &[&[u8]]) -> bool
-    ensures { result ≡ list_all is_cost_text (bytes words.now) }
-{
-    each_is_cost(words)
-}
-
-fn each_is_cost(words: &[&[u8]]) -> bool
-    ensures { result ≡ list_all (λ word. is_cost_text word.now) words.now }
-{
-    for word in words {
-        if !is_cost_text(word) {
-            return false;
-        }
-    }
-    true
-}
-
-/// The number that an argument spells, or 0.
-fn number_at(arguments: &[&[u8]], place: usize) -> i64
-    ensures { result ≡ number_at (bytes arguments.now) place }
-{
-    read_int(argument(arguments, place)).unwrap_or(0)
 }

@@ -3,25 +3,20 @@
 ghost use Rattle.std.specs.Prelude.{◌≡◌, if◌then◌else◌, Some, None};
 ghost use Rattle.pc_text.specs.Crowded.{crowded_line, is_crowded, or_first};
 ghost use Rattle.pc_text.specs.FirstFault.{end_fault, first_fault, give_line, given_by, is_large, line_fault};
-ghost use Rattle.pc_text.specs.Reader.{Holds, IsIndexed, given_of};
+ghost use Rattle.pc_text.specs.Reader.{given_of};
 ghost use Rattle.pc_text.specs.Told.{AnswersAt, ReadsText};
 
 use crate::keyword::Keyword;
-use crate::lines::cut_line;
+use crate::limits::{LINE_BYTES, LINES, TEXT_BYTES};
 use crate::reader::Reader;
+use crate::statement_fault::StatementFault;
 use crate::text_fault::TextFault;
-use pc_rules::{Kind, RuleFault};
+use pc_base::cut_line;
+use pc_rules::Kind;
 use std::alloc::Global;
 
-/// The most bytes of a line, lines of a text and bytes of a text.
-const LINE_BYTES: usize = 65_536;
-
-const LINES: u64 = 8_192;
-
-const TEXT_BYTES: usize = 1_048_576;
-
 /// What the lines of a text give, and the number of the first line at which the numbers of values of the variables so
-/// far multiply to more than 65,536.
+/// far multiply to more than `MOST_WORDS`.
 #[derive(Debug, Drop)]
 pub struct Statements {
     pub reader: Reader,
@@ -30,7 +25,7 @@ pub struct Statements {
 
 /// What all lines of a text give, or the first fault.
 pub fn read_statements(alloc: Global, text: &[u8]) -> Result<Statements, TextFault>
-    ensures { ReadsText (λ statements. Holds statements.reader (given_by text.now) × (statements.crowded ≡ crowded_line text.now)) result (first_fault text.now) }
+    ensures { ReadsText (λ statements. (given_of statements.reader ≡ given_by text.now) × (statements.crowded ≡ crowded_line text.now)) result (first_fault text.now) }
 {
     let mut reader = Reader::new(alloc);
     let mut rest = text;
@@ -44,8 +39,9 @@ pub fn read_statements(alloc: Global, text: &[u8]) -> Result<Statements, TextFau
                 kind: Kind::Size,
             });
         }
-        if let Err(fault) = take_line(alloc, &mut reader, number, line) {
-            return Err(fault);
+        match take_line(alloc, reader, number, line) {
+            Ok(next) => reader = next,
+            Err(fault) => return Err(fault),
         }
         crowded = first_crowded(crowded, &reader, number);
         rest = after;
@@ -68,14 +64,18 @@ fn first_crowded(crowded: Option<u64>, reader: &Reader, number: u64) -> Option<u
 }
 
 /// The next line, with its number, which a fault tells.
-fn take_line(alloc: Global, reader: &mut Reader, number: u64, line: &[u8]) -> Result<(), TextFault>
-    requires { IsIndexed reader.old }
-    ensures { AnswersAt number result (line_fault (given_of reader.old) line.now) (Holds reader.new (give_line (given_of reader.old) line.now)) }
+fn take_line(
+    alloc: Global,
+    reader: Reader,
+    number: u64,
+    line: &[u8],
+) -> Result<Reader, TextFault>
+    ensures { AnswersAt number result (line_fault (given_of reader) line.now) (λ next. given_of next ≡ give_line (given_of reader) line.now) }
 {
     match reader.take_line(alloc, line) {
-        Ok(()) => Ok(()),
-        Err(RuleFault::Fault(kind)) => Err(TextFault::At { line: number, kind }),
-        Err(RuleFault::NoMemory) => Err(TextFault::NoMemory),
+        Ok(reader) => Ok(reader),
+        Err(StatementFault::Fault(kind)) => Err(TextFault::At { line: number, kind }),
+        Err(StatementFault::NoMemory) => Err(TextFault::NoMemory),
     }
 }
 

@@ -30,7 +30,7 @@ pub fn read_file(alloc: Global, text: &[u8]) -> Result<File, TextFault>
 }
 
 /// The number of the first line, counted from 1, at which the numbers of values of the variables so far multiply to
-/// more than 65,536; `None` where they never do. It is a line with a value.
+/// more than `MOST_WORDS`; `None` where they never do. It is a line with a value.
 pub fn crowded_line(alloc: Global, text: &[u8]) -> Result<Option<u64>, TextFault>
     ensures exact { ReadsText (λ line. line ≡ crowded_line text.now) result (first_fault text.now) }
     ensures found { is_crowded (given_by text.now) ≡ true → IfOk result IsSome }

@@ -2,19 +2,21 @@
 use Rattle.std.specs.Prelude.{◌≡◌, ℕ, List, Option, Some, None, IsSome, IfSome}
 use Rattle.std.specs.Io.KnownBytes.{IsAtEnd, append_known, prepend_known}
 use Rattle.pc_base.specs.Rose.{Rose}
+use Rattle.pc_io.specs.declared.lines.TheConstants.{MOST_LINE_BYTES}
 use Rattle.pc_io.specs.Ends.{Ends}
 use Rattle.pc_io.specs.Limits.{broken_limit}
 use Rattle.pc_io.specs.declared.line_fault.LineFault.{LineFault}
 use Rattle.pc_io.specs.Told.{GrewByPart}
+use Rattle.pc_top.specs.declared.list.TheConstants.{MOST_TEXT_BYTES}
 use Rattle.pc_top.specs.declared.status.Status.{Status}
 use Rattle.pc_top.specs.declared.status.Status.TheVariants.{Done, WrongWords, Refused, ReadFault, WriteFault, NoMemory, TooLong}
 use Rattle.pc_top.specs.Means.{Means}
 use Rattle.pc_top.specs.Status.{IsCalledFor}
 use Rattle.pc_top.specs.ListReply.{list_reply}
 
--- the limit that a product text breaks: 65,536 bytes a line, 1,048,576 in all
+-- the limit that a product text breaks: that of a line, or of all bytes
 abbrev pub broken : List ℕ → Option LineFault
-broken text = broken_limit 65536 1048576 text
+broken text = broken_limit MOST_LINE_BYTES MOST_TEXT_BYTES text
 
 -- a text was read to its end
 pub record ReadsAll (text : List ℕ) (before after : Ends) : Type 0 where
@@ -23,7 +25,7 @@ pub record ReadsAll (text : List ℕ) (before after : Ends) : Type 0 where
   pub within : broken text ≡ None
 
 -- a text was read to its end, and its answer was written, all of it; it has this status
-pub record Answers (status : Status) (before after : Ends) : Type 0 where
+pub record IsAnswered (status : Status) (before after : Ends) : Type 0 where
   pub text : List ℕ
   pub reads : ReadsAll text before after
   pub status_is : status ≡ (list_reply text).status
@@ -37,18 +39,18 @@ pub record StopsShort (before after : Ends) : Type 0 where
   pub part : GrewByPart (list_reply text).text before.written after.written
 
 -- nothing was written
-abbrev pub LeavesSink : Ends → Ends → Type 0
-LeavesSink before after = (after.written ≡ before.written) × (after.write_faults ≡ before.write_faults)
+abbrev pub NothingWritten : Ends → Ends → Type 0
+NothingWritten before after = (after.written ≡ before.written) × (after.write_faults ≡ before.write_faults)
 
 -- what each status leaves
-abbrev pub Leaves : Status → Ends → Ends → Type 0
-Leaves Done before after = Answers Done before after
-Leaves Refused before after = Answers Refused before after
-Leaves ReadFault before after = Rose before.read_faults after.read_faults × LeavesSink before after
-Leaves WriteFault before after = Rose before.write_faults after.write_faults × StopsShort before after
-Leaves NoMemory before after = LeavesSink before after
-Leaves TooLong before after = LeavesSink before after × IfSome before.rest (λ b. IsSome (broken b))
-Leaves WrongWords before after = ⊥
+abbrev pub ListLeaves : Status → Ends → Ends → Type 0
+ListLeaves Done before after = IsAnswered Done before after
+ListLeaves Refused before after = IsAnswered Refused before after
+ListLeaves ReadFault before after = Rose before.read_faults after.read_faults × NothingWritten before after
+ListLeaves WriteFault before after = Rose before.write_faults after.write_faults × StopsShort before after
+ListLeaves NoMemory before after = NothingWritten before after
+ListLeaves TooLong before after = NothingWritten before after × IfSome before.rest (λ b. IsSome (broken b))
+ListLeaves WrongWords before after = ⊥
 
 -- the status that a text with or without a broken limit calls for
 abbrev pub status_or_long : Option LineFault → List ℕ → Status
@@ -61,4 +63,4 @@ status_by_text text = status_or_long (broken text) text
 
 -- `list`: what its status leaves; and the bytes of the source call for that status, unless an end failed or memory ran out
 abbrev pub Lists : Status → Ends → Ends → Type 0
-Lists status before after = Leaves status before after × IfSome before.rest (λ text. IsCalledFor (status_by_text text) status)
+Lists status before after = ListLeaves status before after × IfSome before.rest (λ text. IsCalledFor (status_by_text text) status)

@@ -1,6 +1,7 @@
 -- What `list` answers to a product text.
 use Rattle.std.specs.Prelude.{ℕ, nat_eq, nat_lt, length, if◌then◌else◌, List, [], ◌∷◌, ◌++◌, codes, decimal, Option, Some, None}
 use Rattle.pc_diagram.specs.Bounds.{no_bounds}
+use Rattle.pc_file.specs.declared.sizes.TheConstants.{MOST_WORDS}
 use Rattle.pc_file.specs.Costs.{file_listing}
 use Rattle.pc_file.specs.Limits.{Contents}
 use Rattle.pc_file.specs.ListingText.{listing_text}
@@ -41,7 +42,7 @@ listed file words = if nat_eq (length words) 0 then refused_no_product else list
 
 -- a file that is too large for the plain list, or not
 unfoldable pub file_reply : Contents → Option ℕ → Output
-file_reply file crowded = if nat_lt 65536 (words_of file) then refused_not_built crowded else listed file (products file)
+file_reply file crowded = if nat_lt MOST_WORDS (words_of file) then refused_not_built crowded else listed file (products file)
 
 abbrev pub reply_by : Option (ℕ × Kind) → Contents → Option ℕ → Output
 reply_by (Some fault) file crowded = refused_text fault.0 fault.1

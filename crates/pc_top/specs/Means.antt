@@ -1,6 +1,7 @@
 -- What an answer to a product text means.
 use Rattle.std.specs.Prelude.{◌≡◌, ℕ, ◌<◌, ◌≤◌, ◌⊎◌, List, [], ◌++◌, codes, length, Some}
 use Rattle.pc_diagram.specs.Bounds.{no_bounds}
+use Rattle.pc_file.specs.declared.sizes.TheConstants.{MOST_WORDS}
 use Rattle.pc_file.specs.Costs.{file_listing}
 use Rattle.pc_file.specs.Limits.{Contents}
 use Rattle.pc_file.specs.ListingText.{listing_text}
@@ -17,7 +18,7 @@ use Rattle.pc_top.specs.ListReply.{refused_no_product, refused_not_built, refuse
 pub record IsListed (text written : List ℕ) : Type 0 where
   pub file : Contents
   pub spells : Spells text file
-  pub few_words : words_of file ≤ 65536
+  pub few_words : words_of file ≤ MOST_WORDS
   pub some_product : 0 < length (products file)
   pub writes : written ≡ listing_text file.variables (file_listing file [] no_bounds) ++ codes ".\n"
 
@@ -32,14 +33,14 @@ pub record HasFault (text written : List ℕ) : Type 0 where
 pub record IsNotBuilt (text written : List ℕ) : Type 0 where
   pub file : Contents
   pub spells : Spells text file
-  pub many_words : 65536 < words_of file
+  pub many_words : MOST_WORDS < words_of file
   pub writes : written ≡ (refused_not_built (crowded_line text)).text
 
 -- the text spells a file without a product
 pub record HasNoProduct (text written : List ℕ) : Type 0 where
   pub file : Contents
   pub spells : Spells text file
-  pub few_words : words_of file ≤ 65536
+  pub few_words : words_of file ≤ MOST_WORDS
   pub no_product : products file ≡ []
   pub writes : written ≡ refused_no_product.text
 

@@ -9,14 +9,11 @@ ghost use Rattle.pc_top.specs.ListOutcome.{Lists};
 use crate::list_reply::Reply;
 use crate::status::Status;
 use pc_base::{NoMemory, Text};
-use pc_io::{LineFault, Sink, Source, put_all, whole_text};
+use pc_io::{LineFault, MOST_LINE_BYTES, Sink, Source, put_all, whole_text};
 use std::alloc::Global;
 
-/// The most bytes of a line of a product text, without its line feed.
-pub const LINE_LIMIT: u64 = 65_536;
-
 /// The most bytes of a product text.
-pub const TEXT_LIMIT: u64 = 1_048_576;
+pub const MOST_TEXT_BYTES: u64 = 1_048_576;
 
 /// Reads a product text to its end, and writes its answer at once.
 #[tactic(auto, using(crate::proofs::OutcomeLemmas::leaves_answer))]
@@ -30,7 +27,7 @@ pub fn list<S: Source, K: Sink>(alloc: Global, source: &mut S, sink: &mut K) -> 
     ensures read_aside { S.read_aside source.new ≡ S.read_aside source.old }
     ensures write_aside { K.write_aside sink.new ≡ K.write_aside sink.old }
 {
-    let text = match whole_text(alloc, source, LINE_LIMIT, TEXT_LIMIT) {
+    let text = match whole_text(alloc, source, MOST_LINE_BYTES, MOST_TEXT_BYTES) {
         Ok(text) => text,
         Err(LineFault::ReadFault) => return Status::ReadFault,
         Err(LineFault::LineTooLong | LineFault::TotalTooLong) => return Status::TooLong,

@@ -49,12 +49,7 @@ pub fn run<S: Source, K: Sink>(
 }
 
 /// Does the job of a form.
-fn do_form<S: Source, K: Sink>(
-    alloc: Global,
-    form: Form,
-    source: &mut S,
-    sink: &mut K,
-) -> Status
+fn do_form<S: Source, K: Sink>(alloc: Global, form: Form, source: &mut S, sink: &mut K) -> Status
     ensures does { let seen = ends S.rest S.read_faults K.written K.write_faults in
         Does form result (seen source.old sink.old) (seen source.new sink.new) }
     ensures read_fault { result ≡ ReadFault → Rose (S.read_faults source.old) (S.read_faults source.new) }

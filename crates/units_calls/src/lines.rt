@@ -63,7 +63,10 @@ fn tell_call(rt: &HostRuntime, call: &Call) -> Result<()> {
             variable,
             value,
         } => println!(rt; "choose in {session}: {} {}", text(variable)?, text(value)?)?,
-        Call::Retract { session, variable } => println!(rt; "retract in {session}: {}", text(variable)?)?,
+        Call::Retract { session, variable } => println!(rt;
+            "retract in {session}: {}",
+            text(variable)?
+        )?,
         Call::Bound {
             session,
             cost,

@@ -28,7 +28,10 @@ fn main(rt: HostRuntime) -> Result<()> {
     let mut sink = WatchedSink::new(MemorySink::new(alloc, ROOM, Vec::new(alloc))?, held);
     let end = run_script(alloc, &mut source, &mut sink);
     for (read, held) in source.seen().iter().enumerate() {
-        println!(rt; "at read {}: {held} bytes of answers", read.saturating_add(1))?;
+        println!(rt;
+            "at read {}: {held} bytes of answers",
+            read.saturating_add(1)
+        )?;
     }
     println!(rt; "at the end: {} bytes of answers, {end:?}", sink.written())?;
     Ok(())

@@ -15,4 +15,4 @@ returns-clause-set c =
     let pair : Pair = record { left = c.node.result; right = c.node-2.result } in
     λ word.
     (one_answer c.args.store.now c.sets_of_pairs.new.store (pairs_at c.args.store.now 0 c.args.operation) pair c.in_ok-ids.ids.items c.index.result.now c.in_ok-ids.ensures.ids c.index.ensures).words word
-    ∙ whole_words c.args.store.now c.args.operation c.args.left c.args.right c.node.result c.node-2.result c.requires.left c.requires.right c.node.ensures c.node-2.ensures c.words_are_over_domains.ensures word
+    ∙ whole_words c.args.store.now c.args.operation c.args.left c.args.right c.node.result c.node-2.result c.requires.left c.requires.right c.node.ensures c.node-2.ensures word

@@ -7,5 +7,5 @@ diagram_of-requires-clause-some c = some_word c.in_ok-made.made.store c.args.fil
 pub diagram_of-requires-clause-few : goal.diagram_of-requires-clause-few
 diagram_of-requires-clause-few c = c.in_ok-made.ensures.nodes
 
-pub returns-clause-words : goal.returns-clause-words
-returns-clause-words c = words_are_products c.in_ok-made.made.store c.args.file.now c.in_ok-made.made.set c.in_ok-diagram_of.field-0 c.in_ok-made.ensures.domains c.in_ok-made.ensures.set c.in_ok-diagram_of.ensures.domains c.in_ok-diagram_of.ensures.words
+pub returns-in-Ok-clause-words : goal.returns-in-Ok-clause-words
+returns-in-Ok-clause-words c = words_are_products c.in_ok-made.made.store c.args.file.now c.in_ok-made.made.set c.in-Ok.diagram c.in_ok-made.ensures.domains c.in_ok-made.ensures.set c.in-Ok.ensures.domains c.in-Ok.ensures.words

@@ -1,5 +1,6 @@
 use Rattle.std.proofs.Common.{◌≡◌, true, false, ◌∙◌, List, All, sym, ap, subst}
 use Rattle.std.specs.List.{list_all, list_any}
+use Rattle.pc_diagram.specs.declared.limits.TheConstants.{MOST_NODES}
 use Rattle.pc_store.specs.Layered.{IsDomain}
 use Rattle.pc_store.specs.Sets.{domains_of}
 use Rattle.pc_file.specs.declared.variable.Variable.{Variable}
@@ -23,8 +24,8 @@ set_of_rules-requires-clause-spelled c =
 
 pub returns-then-same_set-clause-fault : goal.returns-then-same_set-clause-fault
 returns-then-same_set-clause-fault c =
-    let small = subst (λ (vs : List Variable). list_any (list_any (is_too_large (value_counts vs))) (sets_of vs (λ word. true) c.args.file.now.rules) ≡ false) c.variables-2.ensures.variables
-    (subst (λ (rs : List Rule). list_any (list_any (is_too_large (value_counts c.variables-2.result.now))) (sets_of c.variables-2.result.now (λ word. true) rs) ≡ false) c.rules.ensures.rules c.in_ok-set.ensures.small) in
+    let small = subst (λ (vs : List Variable). list_any (list_any (is_too_large MOST_NODES (value_counts vs))) (sets_of vs (λ word. true) c.args.file.now.rules) ≡ false) c.variables-2.ensures.variables
+    (subst (λ (rs : List Rule). list_any (list_any (is_too_large MOST_NODES (value_counts c.variables-2.result.now))) (sets_of c.variables-2.result.now (λ word. true) rs) ≡ false) c.rules.ensures.rules c.in_ok-set.ensures.small) in
     let denotes : Denotes c.set_of_rules.new.store (obeys c.args.file.now) c.in_ok-set.set = subst (λ (vs : List Variable). Denotes c.set_of_rules.new.store (λ word. list_all (holds vs word) c.args.file.now.rules) c.in_ok-set.set) c.variables-2.ensures.variables
     (subst (λ (rs : List Rule). Denotes c.set_of_rules.new.store (λ word. list_all (holds c.variables-2.result.now word) rs) c.in_ok-set.set) c.rules.ensures.rules c.in_ok-set.ensures.set) in
     let domains : domains_of c.set_of_rules.new.store ≡ value_counts c.args.file.now.variables = c.set_of_rules.ensures.keeps.domains ∙ c.in_ok-store.ensures ∙ c.as_slice.ensures ∙ c.in_ok-domains.ensures ∙ ap value_counts c.variables.ensures.variables in
@@ -35,8 +36,8 @@ returns-clause-nodes c =
     let denotes : Denotes c.set_of_rules.new.store (obeys c.args.file.now) c.in_ok-set.set = subst (λ (vs : List Variable). Denotes c.set_of_rules.new.store (λ word. list_all (holds vs word) c.args.file.now.rules) c.in_ok-set.set) c.variables-2.ensures.variables
     (subst (λ (rs : List Rule). Denotes c.set_of_rules.new.store (λ word. list_all (holds c.variables-2.result.now word) rs) c.in_ok-set.set) c.rules.ensures.rules c.in_ok-set.ensures.set) in
     let domains : domains_of c.set_of_rules.new.store ≡ value_counts c.args.file.now.variables = c.set_of_rules.ensures.keeps.domains ∙ c.in_ok-store.ensures ∙ c.as_slice.ensures ∙ c.in_ok-domains.ensures ∙ ap value_counts c.variables.ensures.variables in
-    let small = subst (λ (vs : List Variable). list_any (list_any (is_too_large (value_counts vs))) (sets_of vs (λ word. true) c.args.file.now.rules) ≡ false) c.variables-2.ensures.variables
-    (subst (λ (rs : List Rule). list_any (list_any (is_too_large (value_counts c.variables-2.result.now))) (sets_of c.variables-2.result.now (λ word. true) rs) ≡ false) c.rules.ensures.rules c.in_ok-set.ensures.small) in
+    let small = subst (λ (vs : List Variable). list_any (list_any (is_too_large MOST_NODES (value_counts vs))) (sets_of vs (λ word. true) c.args.file.now.rules) ≡ false) c.variables-2.ensures.variables
+    (subst (λ (rs : List Rule). list_any (list_any (is_too_large MOST_NODES (value_counts c.variables-2.result.now))) (sets_of c.variables-2.result.now (λ word. true) rs) ≡ false) c.rules.ensures.rules c.in_ok-set.ensures.small) in
     products_small c.set_of_rules.new.store c.args.file.now c.in_ok-set.set c.variables.ensures.limits small domains denotes
 
 pub returns-clause-some : goal.returns-clause-some

@@ -1,10 +1,10 @@
-use Rattle.std.proofs.Common.{◌&&◌, ◌+◌, ◌++◌, ◌∷◌, [], ℕ, Bool, List, sym, subst, arith}
+use Rattle.std.proofs.Common.{◌&&◌, ◌+◌, ◌++◌, ◌∷◌, [], ℕ, Bool, true, List, sym, subst, arith}
 use Rattle.pc_store.proofs.SetLemmas.{keeps_same, keeps_then}
 use Rattle.pc_file.specs.Products.{value_counts}
 use Rattle.pc_file.specs.Rule.{holds}
-use Rattle.pc_file.specs.Parts.{parts_of}
+use Rattle.pc_diagram.specs.declared.limits.TheConstants.{MOST_NODES}
+use Rattle.pc_file.specs.Parts.{parts_of, sets_of, IsNodeLimit}
 use Rattle.pc_build.specs.Making.{StopsAt, Stopped}
-use Rattle.pc_build.specs.Building.{IsLimit}
 use Rattle.pc_build.proofs.JoinedLemmas.{full_denotes, joined_none, joined_more, limit_at}
 use Rattle.pc_build.proofs.SpelledLemmas.{one_spelled}
 use Rattle.pc_build.proofs.rules.set_of_rules.Goals as goal
@@ -25,7 +25,7 @@ returns-in-Err-TooLarge-clause-fault c =
     let rule = c.index-rules-place.result in
     let sets : List (List ℕ → Bool) = parts_of c.args.variables.now rule ++ (λ word. joined.obeys word && holds c.args.variables.now word rule) ∷ [] in
     let stops : StopsAt (value_counts c.args.variables.now) sets 0 c.in-Err-TooLarge.part = subst (Stopped (value_counts c.args.variables.now) sets 0) c.in-Err-TooLarge.field-0-is made.1 in
-    subst (IsLimit c.args.variables.now c.args.rules.now (c.loop-place.place + 1)) (sym c.in-Err-TooLarge.part-is)
+    subst (IsNodeLimit MOST_NODES (value_counts c.args.variables.now) (sets_of c.args.variables.now (λ word. true) c.args.rules.now) (c.loop-place.place + 1)) (sym c.in-Err-TooLarge.part-is)
     (limit_at c.loop-place.store c.args.variables.now c.args.rules.now c.loop-place.place c.loop-place.set rule joined (let low = c.loop-place-test.true in omega arith) c.index-rules-place.is c.in-Err-TooLarge.part stops)
 
 pub loop-place-preserved : goal.loop-place-preserved

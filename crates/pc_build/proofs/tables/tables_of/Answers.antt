@@ -5,6 +5,7 @@ use Rattle.pc_store.specs.declared.id.Node.{Node}
 use Rattle.pc_store.specs.Sets.{domains_of, id_at, IsNodeAt}
 use Rattle.pc_apply.proofs.SplitLemmas.{same_node}
 use Rattle.pc_build.specs.Extracts.{Extracts}
+use Rattle.pc_build.proofs.ExtractLemmas.{are_over}
 use Rattle.pc_build.proofs.TablesLemmas.{Extracted, extracted_root, extracted_more, nodes_at, domains_same, words_same, tables_canonical}
 use Rattle.pc_build.proofs.tables.tables_of.Goals as goal
 
@@ -38,7 +39,7 @@ returns-clause-domains c =
     let high = c.loop-layer.auto.layer-end in
     let count = c.variables-layer-end.ensures.count in
     let end : c.loop-layer.layer ≡ length (domains_of c.args.store.now) = omega arith in
-    domains_same c.args.store.now c.words_are_over_domains.ensures c.args.set c.requires.set c.requires.some c.loop-layer.nodes.keys c.loop-layer.raw
+    domains_same c.args.store.now (are_over c.args.store.now) c.args.set c.requires.set c.requires.some c.loop-layer.nodes.keys c.loop-layer.raw
     (subst (λ n. Extracted c.args.store.now c.args.set n c.loop-layer.nodes.keys c.loop-layer.raw) end c.loop-layer.invariant)
 
 pub returns-clause-words : goal.returns-clause-words
@@ -47,7 +48,7 @@ returns-clause-words c =
     let high = c.loop-layer.auto.layer-end in
     let count = c.variables-layer-end.ensures.count in
     let end : c.loop-layer.layer ≡ length (domains_of c.args.store.now) = omega arith in
-    words_same c.args.store.now c.words_are_over_domains.ensures c.args.set c.requires.set c.requires.some c.loop-layer.nodes.keys c.loop-layer.raw
+    words_same c.args.store.now (are_over c.args.store.now) c.args.set c.requires.set c.requires.some c.loop-layer.nodes.keys c.loop-layer.raw
     (subst (λ n. Extracted c.args.store.now c.args.set n c.loop-layer.nodes.keys c.loop-layer.raw) end c.loop-layer.invariant)
 
 pub returns-clause-canonical : goal.returns-clause-canonical
@@ -58,5 +59,5 @@ returns-clause-canonical c =
     let some = c.variables-layer-end.ensures.some in
     let few = c.variables-layer-end.ensures.few in
     let end : c.loop-layer.layer ≡ length (domains_of c.args.store.now) = omega arith in
-    tables_canonical c.args.store.now c.words_are_over_domains.ensures c.args.set c.requires.set c.requires.some c.loop-layer.nodes.keys c.loop-layer.raw
+    tables_canonical c.args.store.now (are_over c.args.store.now) c.args.set c.requires.set c.requires.some c.loop-layer.nodes.keys c.loop-layer.raw
     (subst (λ n. Extracted c.args.store.now c.args.set n c.loop-layer.nodes.keys c.loop-layer.raw) end c.loop-layer.invariant) (omega arith) (omega arith)

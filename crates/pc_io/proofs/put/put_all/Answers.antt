@@ -11,6 +11,6 @@ loop-left-preserved g c =
       omega (arith, call.bound, size),
       rest_of_rest c.args.bytes.now _ before.0 c.in_ok-taken.taken before.2,
       written_on _ _ _ c.args.bytes.now _ before.0 c.in_ok-taken.taken before.3 before.2 call.bytes,
-      call.calm ∙ before.4,
+      call.faultless ∙ before.4,
       call.aside ∙ before.5,
     )

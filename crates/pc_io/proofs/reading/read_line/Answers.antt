@@ -47,7 +47,7 @@ loop-most-preserved g c =
       ended = none_ahead c.fill.new.self call.ended;
       at_end = call.end;
       unread = λ premise. absurd (not_unread c.args.pending.now c.loop-most.pending c.keep.new.self _ kept.unread no_feed none same (ap (λ (x : Held). x.ended) is) (sym c.if-has_ended.ensures) premise);
-      calm = call.calm ∙ kept.calm;
+      faultless = call.faultless ∙ kept.faultless;
       same_aside = call.aside ∙ kept.same_aside;
     }
 

@@ -15,7 +15,7 @@ loop-text-preserved g c =
     let so_far = c.loop-text.invariant in
     let call = rw c.in-Some.is at c.in_ok-line.ensures in
     rw (c.in_ok-append_line.ensures, c.has_ended.ensures)
-    (read_on _ _ c.loop-text.text c.in-Some.line c.loop-text.lines c.next.new.self _ _ _ _ _ _ _ _ _ _ so_far call.stream call.given call.line call.rises call.within call.limits call.last call.at_end call.told call.unread (call.calm (λ e. cc)) call.aside)
+    (read_on _ _ c.loop-text.text c.in-Some.line c.loop-text.lines c.next.new.self _ _ _ _ _ _ _ _ _ _ so_far call.stream call.given call.line call.rises call.within call.limits call.last call.at_end call.told call.unread (call.faultless (λ e. cc)) call.aside)
 
 pub returns-clause-within : goal.returns-clause-within
 returns-clause-within g c = kept_limits _ _ _ _ _ _ _ _ _ _ c.loop-text.invariant

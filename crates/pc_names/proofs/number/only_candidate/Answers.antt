@@ -4,8 +4,8 @@ use Rattle.std.proofs.lemmas.Fmt.{parse-signed_decimal}
 use Rattle.pc_names.proofs.NumberText.{small, signed_short, signed_utf8}
 use Rattle.pc_names.proofs.number.only_candidate.Goals as goal
 
-pub returns-then-bytes-gt-LONGEST : goal.returns-then-bytes-gt-LONGEST
-returns-then-bytes-gt-LONGEST c z fits is = absurd (omega (arith, signed_short z fits, ap length is, c.if-bytes-gt-LONGEST.true))
+pub returns-then-bytes-gt-LONGEST_NUMBER : goal.returns-then-bytes-gt-LONGEST_NUMBER
+returns-then-bytes-gt-LONGEST_NUMBER c z fits is = absurd (omega (arith, signed_short z fits, ap length is, c.if-bytes-gt-LONGEST_NUMBER.true))
 
 pub returns-in_default : goal.returns-in_default
 returns-in_default c z fits is = absurd (c.in_default.ensures.cases.0 (rw is (signed_utf8 z fits)))

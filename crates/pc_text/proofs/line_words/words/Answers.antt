@@ -2,8 +2,8 @@ use Rattle.std.proofs.Common.{◌≡◌, ℕ, ◌<◌, List, [], ◌∷◌, ◌+
 use Rattle.std.specs.Borrow.{Bor}
 use Rattle.std.proofs.lemmas.Bool.{eqb-true}
 use Rattle.std.proofs.lemmas.List.{append-nil, map_push}
-use Rattle.pc_text.specs.LineWords.{words, after_word}
-use Rattle.pc_text.proofs.LineWordLemmas.{cut_words, no_words, first_of_words}
+use Rattle.pc_names.specs.LineWords.{words, after_word}
+use Rattle.pc_names.proofs.LineWordLemmas.{cut_words, no_words, first_of_words}
 use Rattle.pc_text.proofs.line_words.words.Goals as goal
 
 abbrev now : Bor (List ℕ) → List ℕ

@@ -1,5 +1,5 @@
 use Rattle.std.proofs.Common.{◌≡◌, ◌++◌, map, length}
-use Rattle.pc_text.specs.LineWords.{words}
+use Rattle.pc_names.specs.LineWords.{words}
 use Rattle.pc_text.proofs.line_words.words.Given as goal
 
 abbrev pub invariant-loop-word : goal.invariant-loop-word

@@ -8,7 +8,8 @@ use Rattle.pc_text.specs.declared.text_fault.TextFault.TheVariants.{At, NoMemory
 use Rattle.pc_text.specs.declared.reading.Statements.{Statements}
 use Rattle.pc_text.specs.Told.{AnswersAt, ReadsText}
 use Rattle.pc_text.specs.FirstFault.{is_large, end_fault, at, first_fault, given_by, give_line, line_fault}
-use Rattle.pc_text.specs.Reader.{Holds, given_of}
+use Rattle.pc_text.specs.declared.reader.Reader.{Reader}
+use Rattle.pc_text.specs.Reader.{given_of}
 use Rattle.pc_text.specs.Crowded.{crowded_line}
 use Rattle.pc_text.proofs.CrowdLemmas.{crowded_more, crowded_all}
 use Rattle.pc_text.proofs.FaultLemmas.{given_step, fault_end, given_end, less_after, stops_large, stops_faulty, goes_on}
@@ -28,7 +29,7 @@ returns-then-is_large c =
     stops_large (given_of c.loop-rest.reader) c.loop-rest.number c.args.text.now rest c.cut_line.result.0.now c.cut_line.result.1.now some i.within c.cut_line.ensures.line c.cut_line.ensures.after i.fault
     (sym c.is_large.ensures ∙ c.if-is_large.true)
 
-told : {X : Type 0} (P : X → Type 0) (fault : TextFault) (number : ℕ) (found : Option Kind) (Q : Type 0) (first : Option (ℕ × Kind)) → ((kind : Kind) → found ≡ Some kind → first ≡ Some (number, kind)) →
+told : {X Y : Type 0} (P : X → Type 0) (fault : TextFault) (number : ℕ) (found : Option Kind) (Q : Y → Type 0) (first : Option (ℕ × Kind)) → ((kind : Kind) → found ≡ Some kind → first ≡ Some (number, kind)) →
     AnswersAt number (Err fault) found Q → ReadsText P (Err fault) first
 told P (At line kind) number found Q first tells answer = tells kind answer.1 ∙ ap (λ n. Some (n, kind)) (sym answer.0)
 told P NoMemory number found Q first tells answer = tt
@@ -42,7 +43,7 @@ returns-in-Err c =
     let some : 0 < length rest = grind (arith, c.is_empty.ensures, c.loop-rest-test.true) in
     let i = c.loop-rest.invariant in
     let small : is_large c.loop-rest.number (length text - length c.cut_line.result.1.now) line ≡ false = sym c.is_large.ensures ∙ c.if-is_large.false in
-    told (λ (statements : Statements). Holds statements.reader (given_by text) × (statements.crowded ≡ crowded_line text)) c.in-Err.fault c.loop-rest.number (line_fault given line) (Holds c.take_line.new.reader (give_line given line)) (first_fault text)
+    told (λ (statements : Statements). (given_of statements.reader ≡ given_by text) × (statements.crowded ≡ crowded_line text)) c.in-Err.fault c.loop-rest.number (line_fault given line) (λ (next : Reader). given_of next ≡ give_line given line) (first_fault text)
     (λ kind. stops_faulty given c.loop-rest.number text rest line c.cut_line.result.1.now some i.within c.cut_line.ensures.line c.cut_line.ensures.after i.fault kind small)
     c.in-Err.ensures
 
@@ -69,15 +70,14 @@ loop-rest-preserved c =
     let some : 0 < length rest = grind (arith, c.is_empty.ensures, c.loop-rest-test.true) in
     let i = c.loop-rest.invariant in
     let small : is_large number (length text - length after) line ≡ false = sym c.is_large.ensures ∙ c.if-is_large.false in
-    let answer = c.in_default.ensures in
+    let answer = c.in-Ok.ensures in
     record {
-      indexed = answer.1.indexed;
       within = omega (arith, less_after rest some, ap length c.cut_line.ensures.after, i.within);
       numbered = few (length line) (length text - length after) number true small;
-      fault = rw answer.1.holds (goes_on given number text rest line after some i.within c.cut_line.ensures.line c.cut_line.ensures.after i.fault small answer.0);
-      given = rw (answer.1.holds, c.cut_line.ensures.after, c.cut_line.ensures.line) (sym (given_step given rest some) ∙ i.given);
+      fault = rw answer.1 (goes_on given number text rest line after some i.within c.cut_line.ensures.line c.cut_line.ensures.after i.fault small answer.0);
+      given = rw (answer.1, c.cut_line.ensures.after, c.cut_line.ensures.line) (sym (given_step given rest some) ∙ i.given);
       crowded = rw (c.first_crowded-crowded.ensures, c.cut_line.ensures.after)
-          (crowded_more c.loop-rest.crowded given (given_of c.take_line.new.reader) number rest (crowded_line text) some (answer.1.holds ∙ ap (give_line given) c.cut_line.ensures.line) i.crowded);
+          (crowded_more c.loop-rest.crowded given (given_of c.in-Ok.next) number rest (crowded_line text) some (answer.1 ∙ ap (give_line given) c.cut_line.ensures.line) i.crowded);
     }
 
 pub returns-in-Some : goal.returns-in-Some
@@ -97,7 +97,7 @@ returns-in-None c =
     let text = c.args.text.now in
     let empty : rest ≡ [] = nil_from_length rest (grind (arith, c.is_empty.ensures, c.loop-rest-test.false)) in
     let given = given_of c.loop-rest.reader in
-    let held : Holds c.loop-rest.reader (given_by text) = record { indexed = i.indexed; holds = sym (given_end given rest empty) ∙ i.given } in
+    let held : given ≡ given_by text = sym (given_end given rest empty) ∙ i.given in
     let sound : first_fault text ≡ None =
     sym i.fault ∙ fault_end given c.loop-rest.number (length text - length rest) (length text) rest empty ∙ ap (λ last. at c.loop-rest.number (end_fault last)) (sym c.last.ensures)
     ∙ ap (at c.loop-rest.number) (sym c.in-None.ensures) in

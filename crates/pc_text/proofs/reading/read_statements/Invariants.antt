@@ -2,12 +2,11 @@ use Rattle.std.proofs.Common.{◌≡◌, ◌-◌, ◌≤◌, length}
 use Rattle.pc_base.specs.Lines.{lines}
 use Rattle.pc_text.specs.FirstFault.{fault_from, given_from, first_fault, given_by}
 use Rattle.pc_text.specs.Crowded.{crowded_from, crowded_line, or_first}
-use Rattle.pc_text.specs.Reader.{IsIndexed, given_of}
+use Rattle.pc_text.specs.Reader.{given_of}
 use Rattle.pc_text.proofs.reading.read_statements.Given as goal
 
 abbrev pub invariant-loop-rest : goal.invariant-loop-rest
 invariant-loop-rest l = record {
-  indexed : IsIndexed l.reader;
   within : length l.rest ≤ length l.text;
   numbered : l.number ≤ 8193;
   fault : fault_from (given_of l.reader) l.number (length l.text - length l.rest) (length l.text) (lines l.rest) ≡ first_fault l.text;

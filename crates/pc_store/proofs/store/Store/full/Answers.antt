@@ -1,6 +1,6 @@
 use Rattle.std.proofs.Common.{◌≤◌, length}
 use Rattle.pc_store.specs.Sets.{domains_of}
-use Rattle.pc_store.proofs.SetLemmas.{full_is_id, full_has}
+use Rattle.pc_store.proofs.SetLemmas.{full_is_id, full_has, words_are_over}
 use Rattle.pc_store.proofs.store.Store.full.Goals as goal
 
 pub returns-clause-is_id : goal.returns-clause-is_id
@@ -12,3 +12,6 @@ returns-clause-is_id c =
 
 pub returns-clause-set : goal.returns-clause-set
 returns-clause-set c = rw (← c.self.view_is) (full_has c.self.inside.layers.items c.args.layer c.self.invariant.layered)
+
+pub returns-clause-most : goal.returns-clause-most
+returns-clause-most c = rw (← c.self.view_is) (words_are_over c.self.inside.layers.items c.args.layer)

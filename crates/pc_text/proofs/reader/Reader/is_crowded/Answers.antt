@@ -10,21 +10,21 @@ use Rattle.pc_text.proofs.reader.Reader.is_crowded.Goals as goal
 pub returns-in-Some : goal.returns-in-Some
 returns-in-Some c =
     let given = given_of c.args.self.now in
-    let counted = words_before (value_counts c.as_slice.result.now) c.open_values.result in
+    let counted = words_before (value_counts c.closed.result.now) c.open_values.result in
     let all = word_count (value_counts (variables_given given)) in
     let same : counted ≡ all =
-    ap (λ n. words_before (value_counts c.as_slice.result.now) n) c.open_values.ensures
-    ∙ ap (λ closed. words_before (value_counts closed) (word_count (value_counts (option_to_list given.open_variable)))) c.as_slice.ensures
+    ap (λ n. words_before (value_counts c.closed.result.now) n) c.open_values.ensures
+    ∙ ap (λ closed. words_before (value_counts closed) (word_count (value_counts (option_to_list given.open_variable)))) c.closed.ensures
     ∙ before given.closed (option_to_list given.open_variable) in
     not_too_many counted all c.in-Some.field-0 same c.in-Some.ensures
 
 pub returns-in-None : goal.returns-in-None
 returns-in-None c =
     let given = given_of c.args.self.now in
-    let counted = words_before (value_counts c.as_slice.result.now) c.open_values.result in
+    let counted = words_before (value_counts c.closed.result.now) c.open_values.result in
     let all = word_count (value_counts (variables_given given)) in
     let same : counted ≡ all =
-    ap (λ n. words_before (value_counts c.as_slice.result.now) n) c.open_values.ensures
-    ∙ ap (λ closed. words_before (value_counts closed) (word_count (value_counts (option_to_list given.open_variable)))) c.as_slice.ensures
+    ap (λ n. words_before (value_counts c.closed.result.now) n) c.open_values.ensures
+    ∙ ap (λ closed. words_before (value_counts closed) (word_count (value_counts (option_to_list given.open_variable)))) c.closed.ensures
     ∙ before given.closed (option_to_list given.open_variable) in
     too_many counted all same c.in-None.ensures

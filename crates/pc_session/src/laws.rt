@@ -1,0 +1,11 @@
+//! Laws of sessions. Each function's contract, or that it is one, is a law; nothing calls them.
+
+use crate::answer::Answer;
+use crate::session::Session;
+use pc_base::crosses_threads;
+
+/// A session and an answer may be sent to other threads and shared with them.
+pub fn sessions_cross_threads() {
+    crosses_threads::<Session>();
+    crosses_threads::<Answer>();
+}

@@ -1,8 +1,0 @@
-use Rattle.std.proofs.Common.{length, sym, arith}
-use Rattle.std.proofs.lemmas.List.Sums.{position_or_len_is}
-use Rattle.pc_base.specs.Lines.{is_feed}
-use Rattle.pc_text.proofs.lines.feed_place.Goals as goal
-
-pub returns-clause-place : goal.returns-clause-place
-returns-clause-place c =
-    sym (position_or_len_is is_feed c.args.bytes.now (length c.args.bytes.now) 0 (omega arith) (λ k below. c.loop-place.invariant k (omega arith)) (λ past. absurd (omega arith)))
