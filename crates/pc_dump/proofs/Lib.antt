@@ -1,0 +1,7 @@
+pub mod JudgedLemmas
+pub mod LayerLemmas
+pub mod PutLemmas
+pub mod ReadLemmas
+pub mod StepLemmas
+pub mod WordLemmas
+pub mod WriteLemmas

@@ -1,5 +1,5 @@
 -- The text of a diagram's tables, line by line and word by word.
-use Rattle.std.specs.Prelude.{ℕ, suc, ◌+◌, List, [], ◌∷◌, ◌++◌, map, take, drop, codes, decimal, Option, None, Some}
+use Rattle.std.specs.Prelude.{ℕ, zero, suc, ◌+◌, List, [], ◌∷◌, ◌++◌, map, take, drop, codes, decimal, Option, None, Some}
 use Rattle.std.specs.List.{flat_map, join_with_byte}
 use Rattle.pc_diagram.specs.declared.raw_diagram.RawDiagram.{RawDiagram}
 
@@ -34,7 +34,7 @@ end_words = codes "end" ∷ []
 
 -- the lines of so many nodes with so many values each, by the edges of all
 abbrev pub nodes : ℕ → ℕ → List (Option ℕ) → List Words
-nodes domain 0 table = []
+nodes domain zero table = []
 nodes domain (suc count) table = node_words (take domain table) ∷ nodes domain count (drop domain table)
 
 -- the lines of the layers from this one on: of each its own and those of its nodes, of the last its own; and the last

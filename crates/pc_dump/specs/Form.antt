@@ -36,8 +36,10 @@ AreLayers [] (size ∷ []) [] = IsNumber size
 AreLayers [] (size ∷ []) (table ∷ tables) = ⊥
 AreLayers [] (size ∷ other ∷ sizes) tables = ⊥
 
--- tables that have a text: their lists are as many and as long as the domains and the sizes say
+-- tables that have a text: their lists are as many and as long as the domains and the
+-- sizes say, and each number, that of the last layer too, has 32 bits
 pub record AreTables (raw : RawDiagram) : Type 0 where
+  pub few : IsNumber (length raw.domains)
   pub domains : All IsNumber raw.domains
   pub layers : AreLayers raw.domains raw.sizes raw.edges
 

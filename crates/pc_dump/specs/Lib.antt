@@ -1,3 +1,6 @@
 pub mod Draft
 pub mod Dump
 pub mod Form
+pub mod Judged
+pub mod Put
+pub mod Reading

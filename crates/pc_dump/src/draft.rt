@@ -1,11 +1,10 @@
 //! Tables that are read line by line.
 
-ghost use Rattle.std.specs.Prelude.{◌≡◌, ◌∷◌, ◌++◌, ℕ, List, Option, map, All, decimal, true, false, IfOk, Some};
-ghost use Rattle.pc_dump.specs.Draft.{IsDraft, Refuses, TakesLine};
-ghost use Rattle.pc_dump.specs.Dump.{edge_word};
-ghost use Rattle.pc_dump.specs.Form.{IsEdge, IsNumber};
+ghost use Rattle.std.specs.Prelude.{◌≡◌, ◌<◌, map, true, false, OnOk};
+ghost use Rattle.pc_dump.specs.Draft.{IsBegun, IsDraft, IsOpen, Refuses, Settles, TakesLine, tables_of};
+ghost use Rattle.pc_dump.specs.Form.{AreTables};
 
-use crate::numbers::number_of;
+use crate::kinds::{LayerLine, domains_line, is_end, is_header, layer_line, push_node_line};
 use pc_base::{NoMemory, Sequence};
 use std::alloc::Global;
 use std::mem;
@@ -68,10 +67,7 @@ impl Draft {
         ensures taken { result ≡ true → TakesLine (map (λ word. word.now) words.now) self.old self.new }
         ensures refused { result ≡ false → Refuses (map (λ word. word.now) words.now) self.old }
     {
-        let [first, second] = words else {
-            return false;
-        };
-        if *first != b"diagram".as_slice() || *second != b"1".as_slice() {
+        if !is_header(words) {
             return false;
         }
         self.awaited = Awaited::Domains;
@@ -83,15 +79,12 @@ impl Draft {
         ensures taken { result ≡ Ok true → TakesLine (map (λ word. word.now) words.now) self.old self.new }
         ensures refused { result ≡ Ok false → Refuses (map (λ word. word.now) words.now) self.old }
     {
-        let Some((first, numbers)) = words.split_first() else {
+        let Some(domains) = domains_line(alloc, words)? else {
             return Ok(false);
         };
-        if *first != b"domains".as_slice() {
+        if domains.len() > u32::MAX as usize {
             return Ok(false);
         }
-        let Some(domains) = numbers_of(alloc, numbers)? else {
-            return Ok(false);
-        };
         *self = Draft {
             domains,
             sizes: Sequence::new(alloc),
@@ -102,17 +95,16 @@ impl Draft {
         Ok(true)
     }
 
-    fn take_layer(&mut self, alloc: Global, words: &[&[u8]]) -> Result<bool, NoMemory> {
-        let [first, number, size] = words else {
+    fn take_layer(&mut self, alloc: Global, words: &[&[u8]]) -> Result<bool, NoMemory>
+        requires awaited { self.old.awaited ≡ Awaited.Layer }
+        requires begun { IsBegun self.old }
+        ensures taken { result ≡ Ok true → TakesLine (map (λ word. word.now) words.now) self.old self.new }
+        ensures refused { result ≡ Ok false → Refuses (map (λ word. word.now) words.now) self.old }
+    {
+        let Some(LayerLine { layer, size }) = layer_line(words) else {
             return Ok(false);
         };
-        if *first != b"layer".as_slice() {
-            return Ok(false);
-        }
-        let (Some(number), Some(size)) = (number_of(number), number_of(size)) else {
-            return Ok(false);
-        };
-        if number as usize != self.edges.len() {
+        if layer as usize != self.edges.len() {
             return Ok(false);
         }
         if self.edges.len() == self.domains.len() {
@@ -131,28 +123,28 @@ impl Draft {
         words: &[&[u8]],
         size: u32,
         left: u32,
-    ) -> Result<bool, NoMemory> {
-        let Some((first, edges)) = words.split_first() else {
-            return Ok(false);
-        };
-        if *first != b"n".as_slice() {
-            return Ok(false);
-        }
-        let Some(domain) = self.domains.get(self.edges.len()) else {
-            return Ok(false);
-        };
-        if edges.len() != *domain as usize || !push_edges(&mut self.rows, edges)? {
+    ) -> Result<bool, NoMemory>
+        requires awaited { self.old.awaited ≡ Awaited.Node size left }
+        requires some { 0 < left }
+        requires open { IsOpen size left self.old }
+        ensures taken { result ≡ Ok true → TakesLine (map (λ word. word.now) words.now) self.old self.new }
+        ensures refused { result ≡ Ok false → Refuses (map (λ word. word.now) words.now) self.old }
+    {
+        let domain = self.domains.as_slice()[self.edges.len()];
+        if !push_node_line(&mut self.rows, words, domain)? {
             return Ok(false);
         }
         self.await_nodes(alloc, size, left - 1)?;
         Ok(true)
     }
 
-    fn take_end(&mut self, words: &[&[u8]]) -> bool {
-        let [word] = words else {
-            return false;
-        };
-        if *word != b"end".as_slice() {
+    fn take_end(&mut self, words: &[&[u8]]) -> bool
+        requires awaited { self.old.awaited ≡ Awaited.End }
+        requires tables { AreTables (tables_of self.old) }
+        ensures taken { result ≡ true → TakesLine (map (λ word. word.now) words.now) self.old self.new }
+        ensures refused { result ≡ false → Refuses (map (λ word. word.now) words.now) self.old }
+    {
+        if !is_end(words) {
             return false;
         }
         self.awaited = Awaited::Nothing;
@@ -160,7 +152,10 @@ impl Draft {
     }
 
     /// Waits for the nodes that are left of a layer of this size, or closes it where none is.
-    fn await_nodes(&mut self, alloc: Global, size: u32, left: u32) -> Result<(), NoMemory> {
+    fn await_nodes(&mut self, alloc: Global, size: u32, left: u32) -> Result<(), NoMemory>
+        requires { IsOpen size left self.old }
+        ensures { OnOk result (Settles (Awaited.Node size left) self.old self.new) }
+    {
         if left > 0 {
             self.awaited = Awaited::Node { size, left };
             return Ok(());
@@ -169,42 +164,5 @@ impl Draft {
         self.edges.push(mem::replace(&mut self.rows, Sequence::new(alloc)))?;
         self.awaited = Awaited::Layer;
         Ok(())
-    }
-}
-
-/// The numbers that words are, or None where one isn't.
-fn numbers_of(alloc: Global, words: &[&[u8]]) -> Result<Option<Sequence<u32>>, NoMemory>
-{
-    let mut numbers = Sequence::with_capacity(alloc, words.len())?;
-    for word in words {
-        match number_of(word) {
-            Some(number) => numbers.push(number)?,
-            None => return Ok(None),
-        }
-    }
-    Ok(Some(numbers))
-}
-
-/// Puts the edges that words are at the end, or tells that one word is none.
-fn push_edges(rows: &mut Sequence<Option<u32>>, words: &[&[u8]]) -> Result<bool, NoMemory>
-{
-    for word in words {
-        match edge_of(word) {
-            Some(edge) => rows.push(edge)?,
-            None => return Ok(false),
-        }
-    }
-    Ok(true)
-}
-
-/// The edge that a word is: a number, or `-` for none.
-fn edge_of(word: &[u8]) -> Option<Option<u32>>
-{
-    if word == b"-".as_slice() {
-        return Some(None);
-    }
-    match number_of(word) {
-        Some(target) => Some(Some(target)),
-        None => None,
     }
 }

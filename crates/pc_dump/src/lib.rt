@@ -4,6 +4,7 @@
 
 mod draft;
 mod dump;
+mod kinds;
 mod line_words;
 mod numbers;
 mod reader;

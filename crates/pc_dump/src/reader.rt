@@ -1,5 +1,12 @@
 //! The lines of a text, judged one after the other.
 
+ghost use Rattle.std.specs.Prelude.{◌≡◌, ◌<◌, ◌^◌, [], ◌∷◌, ◌++◌, List, OnOk};
+ghost use Rattle.std.specs.List.{slice_split};
+ghost use Rattle.pc_dump.specs.Dump.{Words};
+ghost use Rattle.pc_dump.specs.Form.{IsDump};
+ghost use Rattle.pc_dump.specs.Judged.{HasTaken};
+ghost use Rattle.pc_names.specs.Spaces.{is_space};
+
 use crate::draft::{Awaited, Draft};
 use crate::dump::Dump;
 use crate::line_words::line_words;
@@ -16,7 +23,10 @@ pub(crate) struct Reader {
 }
 
 impl Reader {
-    pub(crate) fn new(alloc: Global) -> Reader {
+    /// No line was taken.
+    pub(crate) fn new(alloc: Global) -> Reader
+        ensures { HasTaken result [] }
+    {
         Reader {
             draft: Draft::new(alloc),
             count: 0,
@@ -25,19 +35,29 @@ impl Reader {
     }
 
     /// Takes the next line. After the first that fits no tables nothing is kept.
-    pub(crate) fn take(&mut self, alloc: Global, line: &[u8]) -> Result<(), NoMemory> {
+    pub(crate) fn take(&mut self, alloc: Global, line: &[u8]) -> Result<(), NoMemory>
+        requires count { self.old.count < 2 ^ 63 }
+        requires taken { (taken : List Words) × HasTaken self.old taken }
+        ensures { OnOk result ((taken : List Words) → HasTaken self.old taken → HasTaken self.new (taken ++ slice_split is_space line.now ∷ [])) }
+    {
         self.count += 1;
-        if self.misfit.is_none() {
-            let words = line_words(alloc, line)?;
-            if !self.draft.take(alloc, words.as_slice())? {
-                self.misfit = Some(self.count);
+        match self.misfit {
+            Some(_) => Ok(()),
+            None => {
+                let words = line_words(alloc, line)?;
+                if !self.draft.take(alloc, words.as_slice())? {
+                    self.misfit = Some(self.count);
+                }
+                Ok(())
             }
         }
-        Ok(())
     }
 
     /// What all lines are.
-    pub(crate) fn finish(self) -> Dump {
+    pub(crate) fn finish(self) -> Dump
+        requires { self.count < 2 ^ 63 }
+        ensures { (taken : List Words) → HasTaken self taken → IsDump result taken }
+    {
         let Reader {
             draft,
             count,

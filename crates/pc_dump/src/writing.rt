@@ -1,7 +1,10 @@
 //! The text that a diagram prints.
 
-ghost use Rattle.std.specs.Prelude.{◌≡◌, ◌<◌, ◌++◌, OnOk};
-ghost use Rattle.pc_dump.specs.Dump.{dump_text};
+ghost use Rattle.std.specs.Prelude.{◌≡◌, ◌<◌, ◌≤◌, ◌++◌, length, slice_index, OnOk};
+ghost use Rattle.std.specs.List.{flat_map};
+ghost use Rattle.pc_diagram.specs.Diagram.{IsCanonical};
+ghost use Rattle.pc_diagram.specs.Levels.{level, row};
+ghost use Rattle.pc_dump.specs.Dump.{domains_words, dump_text, header_words, layer_words, line_of, node_words, nodes};
 
 use pc_base::{NoMemory, Text};
 use pc_diagram::{Diagram, Steps};
@@ -23,23 +26,23 @@ fn push_lines<L: Ledger>(
     requires name { blank.name ≡ L.name }
     requires parts { blank.parts ≡ L.parts }
     requires some { 0 < blank.parts }
+    ensures { OnOk result (text.new ≡ text.old ++ dump_text diagram.now) }
 {
     let mut steps = Steps::<L>::new(blank);
     let domains = diagram.domains();
     push_domains(text, domains)?;
     for (variable, domain) in domains.iter().enumerate() {
-        let variable = variable as u32;
-        push_layer(text, diagram, variable)?;
-        for node in 0..diagram.nodes(variable) {
-            push_node(text, diagram, variable, *domain, node, &mut steps)?;
-        }
+        push_layer(text, diagram, variable as u32)?;
+        push_nodes(text, diagram, variable as u32, *domain, &mut steps)?;
     }
     push_layer(text, diagram, domains.len() as u32)?;
     text.extend_from_slice(b"end\n")
 }
 
 /// The first two lines.
-fn push_domains(text: &mut Text, domains: &[u32]) -> Result<(), NoMemory> {
+fn push_domains(text: &mut Text, domains: &[u32]) -> Result<(), NoMemory>
+    ensures { OnOk result (text.new ≡ text.old ++ line_of header_words ++ line_of (domains_words domains.now)) }
+{
     text.extend_from_slice(b"diagram 1\ndomains")?;
     for domain in domains {
         text.push(b' ')?;
@@ -49,12 +52,35 @@ fn push_domains(text: &mut Text, domains: &[u32]) -> Result<(), NoMemory> {
 }
 
 /// The line of a layer.
-fn push_layer(text: &mut Text, diagram: &Diagram, layer: u32) -> Result<(), NoMemory> {
+fn push_layer(text: &mut Text, diagram: &Diagram, layer: u32) -> Result<(), NoMemory>
+    requires { layer ≤ length diagram.now.domains }
+    ensures { OnOk result (text.new ≡ text.old ++ line_of (layer_words layer (slice_index diagram.now.sizes layer))) }
+{
     text.extend_from_slice(b"layer ")?;
     text.push_unsigned(u64::from(layer))?;
     text.push(b' ')?;
     text.push_unsigned(u64::from(diagram.nodes(layer)))?;
     text.push(b'\n')
+}
+
+/// The lines of a layer's nodes.
+fn push_nodes<L: Ledger>(
+    text: &mut Text,
+    diagram: &Diagram,
+    variable: u32,
+    domain: u32,
+    steps: &mut Steps<L>,
+) -> Result<(), NoMemory>
+    requires canonical { IsCanonical diagram.now }
+    requires variable { variable < length diagram.now.domains }
+    requires domain { domain ≡ slice_index diagram.now.domains variable }
+    ensures { OnOk result (text.new ≡ text.old
+        ++ flat_map line_of (nodes domain (slice_index diagram.now.sizes variable) (level diagram.now variable).table)) }
+{
+    for node in 0..diagram.nodes(variable) {
+        push_node(text, diagram, variable, domain, node, steps)?;
+    }
+    Ok(())
 }
 
 /// The line of a node.
@@ -65,7 +91,13 @@ fn push_node<L: Ledger>(
     domain: u32,
     node: u32,
     steps: &mut Steps<L>,
-) -> Result<(), NoMemory> {
+) -> Result<(), NoMemory>
+    requires variable { variable < length diagram.now.domains }
+    requires domain { domain ≡ slice_index diagram.now.domains variable }
+    requires node { node < slice_index diagram.now.sizes variable }
+    requires count { length (row (level diagram.now variable) node) ≡ domain }
+    ensures { OnOk result (text.new ≡ text.old ++ line_of (node_words (row (level diagram.now variable) node))) }
+{
     text.push(b'n')?;
     for value in 0..domain {
         text.push(b' ')?;
