@@ -7,6 +7,7 @@ pub mod ExtractLemmas
 pub mod NamedLemmas
 pub mod SameLemmas
 pub mod TablesLemmas
+pub mod TrieLemmas
 pub mod WordLemmas
 pub mod FaultLemmas
 pub mod MakingLemmas
