@@ -1,6 +1,7 @@
 //! The compiler.
 
 ghost use Rattle.std.specs.Prelude.{◌≡◌, ◌≢◌, [], IfOk, IfErr};
+ghost use Rattle.pc_diagram.specs.Diagram.{IsCanonical};
 ghost use Rattle.pc_file.specs.Full.{full};
 ghost use Rattle.pc_build.specs.Building.{IsSmall, IsBuildFault, HasNodeForEachRest};
 
@@ -19,6 +20,7 @@ use std::alloc::Global;
 /// memory, which may come in any case.
 pub fn compile(alloc: Global, file: SharedFile) -> Result<Version, BuildFault>
     ensures file { IfOk result (λ version. version.file ≡ file) }
+    ensures canonical { IfOk result (λ version. IsCanonical version.diagram) }
     ensures nodes { IfOk result (λ version. HasNodeForEachRest file version.diagram) }
     ensures small { IfOk result (λ _. IsSmall file) }
     ensures some { IfOk result (λ _. full file ≢ []) }

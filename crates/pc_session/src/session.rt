@@ -31,6 +31,7 @@ pub struct Session {
 
 impl Model for Session {
     ghost use Rattle.std.specs.Prelude.{◌≡◌, ◌≤◌, IsTrue};
+    ghost use Rattle.pc_file.specs.declared.sizes.TheConstants.{MOST_WORDS};
     ghost use Rattle.pc_file.specs.Products.{words_of};
     ghost use Rattle.pc_file.specs.contracts.shared_file.SharedFile as shared;
     ghost use Rattle.pc_session.specs.Visit.{Visit, some_fit};

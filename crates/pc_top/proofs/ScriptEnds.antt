@@ -9,20 +9,7 @@ use Rattle.pc_script.specs.declared.script_end.ScriptEnd.TheVariants.{Ended, Rea
 use Rattle.pc_script.specs.ScriptOutcome.{AnswersBefore, Leaves, broken}
 use Rattle.pc_top.specs.Status.{IsCalledFor}
 use Rattle.pc_top.specs.ScriptStatus.{RunsScript, status_after, status_by}
-
--- bytes that were all read are all that were told
-all_told : (told rest : Option (List ℕ)) (bytes : List ℕ) → told ≡ prepend_known bytes rest → IsAtEnd rest → IfSome told (λ b. b ≡ bytes)
-all_told None rest bytes e end = tt
-all_told (Some b) None bytes e end = absurd cc
-all_told (Some b) (Some xs) bytes e end = let same : b ≡ bytes ++ xs = cc in same ∙ ap (λ (x : List ℕ). bytes ++ x) end ∙ append-nil bytes
-
-if_some : (told : Option (List ℕ)) (P Q : List ℕ → Type 0) → IfSome told P → ((b : List ℕ) → P b → Q b) → IfSome told Q
-if_some None P Q h k = tt
-if_some (Some b) P Q h k = k b h
-
-always : (told : Option (List ℕ)) (Q : List ℕ → Type 0) → ((b : List ℕ) → Q b) → IfSome told Q
-always None Q k = tt
-always (Some b) Q k = k b
+use Rattle.pc_top.proofs.ToldLemmas.{all_told, always, if_some}
 
 called_for : (end : ScriptEnd) (before after : Ends) → Leaves end before after → IfSome before.rest (λ bytes. IsCalledFor (status_by (broken bytes)) (status_after end))
 called_for Ended before after leaves =

@@ -2,15 +2,16 @@
 use Rattle.std.specs.Prelude.{◌≡◌, ℕ}
 use Rattle.pc_io.specs.Ends.{Ends}
 use Rattle.pc_top.specs.declared.form.Form.{Form}
-use Rattle.pc_top.specs.declared.form.Form.TheVariants.{List, Script}
+use Rattle.pc_top.specs.declared.form.Form.TheVariants.{List, Dump, Script}
 use Rattle.pc_top.specs.declared.status.Status.{Status}
-use Rattle.pc_top.specs.ListOutcome.{Lists}
 use Rattle.pc_top.specs.ScriptStatus.{RunsScript}
 use Rattle.pc_top.specs.Status.{code}
+use Rattle.pc_top.specs.TextOutcome.{Dumps, Lists}
 
 -- ends with a status, and leaves this
 abbrev pub Does : Form → Status → Ends → Ends → Type 0
 Does List = Lists
+Does Dump = Dumps
 Does Script = RunsScript
 
 -- the same, with the exit status

@@ -1,8 +1,10 @@
 pub mod Does
-pub mod ListOutcome
+pub mod DumpMeans
+pub mod ListMeans
 pub mod ListReply
-pub mod Means
 pub mod Reply
 pub mod ScriptStatus
 pub mod Status
+pub mod TextMeans
+pub mod TextOutcome
 pub mod Words

@@ -1,6 +1,6 @@
 -- A reply of the program, and the output that it is.
 use Rattle.std.specs.Prelude.{◌≡◌}
-use Rattle.pc_top.specs.declared.list_reply.Reply.{Reply}
+use Rattle.pc_top.specs.declared.reply.Reply.{Reply}
 use Rattle.pc_top.specs.ListReply.{Output}
 
 pub record Is (reply : Reply) (output : Output) : Type 0 where

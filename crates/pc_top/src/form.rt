@@ -8,6 +8,8 @@ ghost use Rattle.pc_top.specs.Words.{form_of, form_of_word};
 pub enum Form {
     /// `list`: a product text in, its open listing out.
     List,
+    /// `dump`: a product text in, the text of its diagram out.
+    Dump,
     /// `script`: lines of commands in, their answers out.
     Script,
 }
@@ -28,6 +30,8 @@ impl Form {
     {
         if word == b"list".as_slice() {
             Some(Form::List)
+        } else if word == b"dump".as_slice() {
+            Some(Form::Dump)
         } else if word == b"script".as_slice() {
             Some(Form::Script)
         } else {

@@ -2,11 +2,11 @@
 #![tactic(auto)]
 
 mod form;
-mod list;
-mod list_reply;
 mod program;
+mod reply;
 mod script;
 mod status;
+mod text_job;
 
 pub use program::run;
 pub use status::Status;

@@ -8,16 +8,16 @@ ghost use Rattle.pc_top.specs.Does.{Does, Exits};
 ghost use Rattle.pc_top.specs.Words.{form_of};
 
 use crate::form::Form;
-use crate::list::list;
 use crate::script::script;
 use crate::status::Status;
+use crate::text_job::{TextJob, answer_text};
 use pc_io::{Sink, Source};
 use std::alloc::Global;
 
 /// Does the job that the words of the command line name, and gives the exit status.
 ///
-/// `list` reads a product text and writes its listing without choices and bounds, and a line `.`. A line of a product
-/// text has at most 65,536 bytes, and all of it at most 1,048,576. `script` reads lines of commands and writes the
+/// `list` reads a product text and writes its listing without choices and bounds, and a line `.`; `dump` writes the text
+/// of its diagram. A line of a product text has at most 65,536 bytes, and all of it at most 1,048,576. `script` reads lines of commands and writes the
 /// answer to each before it waits for the next; a line has at most 65,536 bytes, and all of them at most 16,777,216.
 pub fn run<S: Source, K: Sink>(
     alloc: Global,
@@ -49,6 +49,7 @@ pub fn run<S: Source, K: Sink>(
 }
 
 /// Does the job of a form.
+#[tactic(auto, using(crate::proofs::OutcomeLemmas::lists))]
 fn do_form<S: Source, K: Sink>(alloc: Global, form: Form, source: &mut S, sink: &mut K) -> Status
     ensures does { let seen = ends S.rest S.read_faults K.written K.write_faults in
         Does form result (seen source.old sink.old) (seen source.new sink.new) }
@@ -60,7 +61,8 @@ fn do_form<S: Source, K: Sink>(alloc: Global, form: Form, source: &mut S, sink: 
     ensures write_aside { K.write_aside sink.new ≡ K.write_aside sink.old }
 {
     match form {
-        Form::List => list(alloc, source, sink),
+        Form::List => answer_text(alloc, TextJob::List, source, sink),
+        Form::Dump => answer_text(alloc, TextJob::Dump, source, sink),
         Form::Script => script(alloc, source, sink),
     }
 }

@@ -1,4 +1,4 @@
--- What an answer to a product text means.
+-- What an answer of `list` to a product text means.
 use Rattle.std.specs.Prelude.{◌≡◌, ℕ, ◌<◌, ◌≤◌, ◌⊎◌, List, [], ◌++◌, codes, length, Some}
 use Rattle.pc_diagram.specs.Bounds.{no_bounds}
 use Rattle.pc_file.specs.declared.sizes.TheConstants.{MOST_WORDS}
@@ -45,11 +45,11 @@ pub record HasNoProduct (text written : List ℕ) : Type 0 where
   pub writes : written ≡ refused_no_product.text
 
 -- what it means that a text gets this status and what is written
-abbrev pub Means : Status → List ℕ → List ℕ → Type 0
-Means Done text written = IsListed text written
-Means WrongWords text written = ⊥
-Means Refused text written = HasFault text written ⊎ IsNotBuilt text written ⊎ HasNoProduct text written
-Means ReadFault text written = ⊥
-Means WriteFault text written = ⊥
-Means NoMemory text written = ⊥
-Means TooLong text written = ⊥
+abbrev pub ListMeans : Status → List ℕ → List ℕ → Type 0
+ListMeans Done text written = IsListed text written
+ListMeans WrongWords text written = ⊥
+ListMeans Refused text written = HasFault text written ⊎ IsNotBuilt text written ⊎ HasNoProduct text written
+ListMeans ReadFault text written = ⊥
+ListMeans WriteFault text written = ⊥
+ListMeans NoMemory text written = ⊥
+ListMeans TooLong text written = ⊥

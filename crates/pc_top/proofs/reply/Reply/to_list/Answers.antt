@@ -1,5 +1,5 @@
 use Rattle.pc_top.proofs.OutcomeLemmas.{means_listed}
-use Rattle.pc_top.proofs.list_reply.Reply.to_list.Goals as goal
+use Rattle.pc_top.proofs.reply.Reply.to_list.Goals as goal
 
 pub returns-in-Ok-plain_products-clause-means : goal.returns-in-Ok-plain_products-clause-means
 returns-in-Ok-plain_products-clause-means c =

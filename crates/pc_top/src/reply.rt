@@ -1,12 +1,14 @@
-//! The answer of `list`.
+//! The answers to a product text.
 
 ghost use Rattle.std.specs.Prelude.{◌≡◌, [], None, Some, IfOk};
 ghost use Rattle.pc_file.specs.Products.{products};
 
 use crate::status::Status;
 use pc_base::{NoMemory, Text};
-use pc_diagram::{Bounds, Choices, Word};
-use pc_file::{File, PlainFault, listing_over, plain_products, push_listing};
+use pc_build::{BuildFault, compile};
+use pc_diagram::{Bounds, Choices, Diagram, Word};
+use pc_dump::push_dump;
+use pc_file::{File, PlainFault, SharedFile, listing_over, plain_products, push_listing};
 use pc_text::{Kind, TextFault, crowded_line, read_file};
 use std::alloc::Global;
 
@@ -23,7 +25,8 @@ impl Reply {
     ghost use Rattle.pc_text.specs.Crowded.{crowded_line, is_crowded};
     ghost use Rattle.pc_text.specs.FirstFault.{first_fault, given_by};
     ghost use Rattle.pc_top.specs.ListReply.{list_reply, listed, refused_no_product, refused_not_built, refused_text};
-    ghost use Rattle.pc_top.specs.Means.{Means};
+    ghost use Rattle.pc_top.specs.ListMeans.{ListMeans};
+    ghost use Rattle.pc_top.specs.DumpMeans.{DumpMeans, dumped_text, refused_node_limit};
     ghost use Rattle.pc_top.specs.Reply.{Is};
 
     /// The answer to a product text: the listing of the file that it spells, without choices and bounds, and a line
@@ -31,7 +34,7 @@ impl Reply {
     #[tactic(auto, unfolding(crate::specs::ListReply::list_reply, crate::specs::ListReply::file_reply))]
     pub fn to_list(alloc: Global, text: &[u8]) -> Result<Reply, NoMemory>
         ensures exact { IfOk result (λ reply. Is reply (list_reply text.now)) }
-        ensures means { IfOk result (λ reply. Means reply.status text.now reply.text) }
+        ensures means { IfOk result (λ reply. ListMeans reply.status text.now reply.text) }
     {
         let file = match read_file(alloc, text) {
             Ok(file) => file,
@@ -91,10 +94,7 @@ impl Reply {
         ensures { IfOk result (λ reply. Is reply (listed file.now (products file.now))) }
     {
         if words.is_empty() {
-            return Ok(Reply {
-                status: Status::Refused,
-                text: Text::from_slice(alloc, b"refused no-product\n")?,
-            });
+            return Reply::refused_no_product(alloc);
         }
         let listing = listing_over(alloc, file, words, &Choices::new(alloc), &Bounds::none())?;
         let mut text = Text::new(alloc);
@@ -102,6 +102,63 @@ impl Reply {
         text.extend_from_slice(b".\n")?;
         Ok(Reply {
             status: Status::Done,
+            text,
+        })
+    }
+
+    /// The line for a file without a product.
+    fn refused_no_product(alloc: Global) -> Result<Reply, NoMemory>
+        ensures { IfOk result (λ reply. Is reply refused_no_product) }
+    {
+        Ok(Reply {
+            status: Status::Refused,
+            text: Text::from_slice(alloc, b"refused no-product\n")?,
+        })
+    }
+
+    /// The answer to a product text: the text of the diagram of the file that it spells; or one line that says why there
+    /// is none.
+    pub fn to_dump(alloc: Global, text: &[u8]) -> Result<Reply, NoMemory>
+        ensures { IfOk result (λ reply. DumpMeans reply.status text.now reply.text) }
+    {
+        let file = match read_file(alloc, text) {
+            Ok(file) => SharedFile::new(alloc, file)?,
+            Err(TextFault::At { line, kind }) => return Reply::refused_text(alloc, line, kind),
+            Err(TextFault::NoMemory) => return Err(NoMemory),
+        };
+        match compile(alloc, file) {
+            Ok(version) => Reply::dumped(alloc, &version.diagram),
+            Err(BuildFault::NodeLimit { rule, part }) => {
+                Reply::refused_node_limit(alloc, rule, part)
+            }
+            Err(BuildFault::NoProduct) => Reply::refused_no_product(alloc),
+            Err(BuildFault::NoMemory) => Err(NoMemory),
+        }
+    }
+
+    /// The text of a diagram.
+    fn dumped(alloc: Global, diagram: &Diagram) -> Result<Reply, NoMemory>
+        ensures { IfOk result (λ reply. Is reply (dumped_text diagram.now)) }
+    {
+        let mut text = Text::new(alloc);
+        push_dump(&mut text, diagram)?;
+        Ok(Reply {
+            status: Status::Done,
+            text,
+        })
+    }
+
+    /// The line for a file of which a set is too large.
+    fn refused_node_limit(alloc: Global, rule: u32, part: u32) -> Result<Reply, NoMemory>
+        ensures { IfOk result (λ reply. Is reply (refused_node_limit rule part)) }
+    {
+        let mut text = Text::from_slice(alloc, b"refused node-limit ")?;
+        text.push_unsigned(u64::from(rule))?;
+        text.push(b' ')?;
+        text.push_unsigned(u64::from(part))?;
+        text.push(b'\n')?;
+        Ok(Reply {
+            status: Status::Refused,
             text,
         })
     }
