@@ -1,6 +1,6 @@
 -- A diagram, variable by variable.
-use Rattle.std.specs.Prelude.{ℕ, ◌+◌, ◌*◌, List, [], map, length, Option, None, slice_index, slice_index_or}
-use Rattle.std.specs.List.{range_with_len, slice_range}
+use Rattle.std.specs.Prelude.{ℕ, ◌+◌, ◌*◌, List, [], map, length, count_by, is_some, Option, None, slice_index, slice_index_or}
+use Rattle.std.specs.List.{range_with_len, slice_range, sum_by}
 use Rattle.pc_diagram.specs.declared.raw_diagram.RawDiagram.{RawDiagram}
 
 -- what a diagram has of one variable: how many values it takes, how many nodes its layer and the next layer have, and
@@ -35,6 +35,10 @@ rows l = map (row l) (range_with_len 0 l.size)
 -- the edge of a node for a value, if there is one
 abbrev pub edge : Level → ℕ → ℕ → Option ℕ
 edge l node value = slice_index_or (row l node) value None
+
+-- how many edges all nodes have
+abbrev pub edge_count : RawDiagram → ℕ
+edge_count raw = sum_by (count_by is_some) raw.edges
 
 -- a level of these parts
 abbrev pub as_level : ℕ → ℕ → ℕ → List (Option ℕ) → Level

@@ -1,6 +1,6 @@
 //! Decision diagrams.
 
-ghost use Rattle.std.specs.Prelude.{◌≡◌, ◌≢◌, ◌<◌, ◌≤◌, ◌+◌, length, slice_index, Some, None, OnOk, IfOk, IfErr, IfSome};
+ghost use Rattle.std.specs.Prelude.{◌≡◌, ◌≢◌, ◌<◌, ◌≤◌, ◌+◌, length, slice_index, sum, Some, None, OnOk, IfOk, IfErr, IfSome};
 
 use crate::diagram_fault::DiagramFault;
 use crate::flaw::Flaw;
@@ -48,7 +48,7 @@ impl Model for Diagram {
 impl Diagram {
     ghost use Rattle.pc_diagram.specs.Diagram.{IsCanonical};
     ghost use Rattle.pc_diagram.specs.DiagramFaults.{first_fault};
-    ghost use Rattle.pc_diagram.specs.Levels.{level, edge};
+    ghost use Rattle.pc_diagram.specs.Levels.{level, edge, edge_count};
 
     /// The diagram of these tables, which stay as they are, where they are those of a canonical diagram.
     ///
@@ -75,6 +75,28 @@ impl Diagram {
         ensures { result ≡ slice_index self.now.sizes layer }
     {
         self.sizes.as_slice()[layer as usize]
+    }
+
+    /// How many nodes all layers have.
+    pub fn node_count(&self) -> u64
+        ensures { result ≡ sum self.now.sizes }
+    {
+        let mut nodes = 0;
+        for size in self.sizes.as_slice() {
+            nodes += u64::from(*size);
+        }
+        nodes
+    }
+
+    /// How many edges all nodes have.
+    pub fn edge_count(&self) -> u64
+        ensures { result ≡ edge_count self.now }
+    {
+        let mut edges = 0;
+        for table in self.edges.as_slice() {
+            edges += table.edge_count() as u64;
+        }
+        edges
     }
 
     /// The node of the next layer that a node's edge for a value leads to, if it has such an edge. It is one step.

@@ -1,6 +1,6 @@
 //! The edges of a layer, four bytes each.
 
-ghost use Rattle.std.specs.Prelude.{◌≡◌, ◌<◌, None, false, length, slice_index_or, IfOk};
+ghost use Rattle.std.specs.Prelude.{◌≡◌, ◌<◌, None, false, length, slice_index_or, count_by, is_some, IfOk};
 ghost use Rattle.std.specs.List.{list_any};
 ghost use Rattle.pc_diagram.specs.DiagramFaults.{is_outside};
 
@@ -37,6 +37,13 @@ impl Table {
             numbers.push(edge.unwrap_or(NO_EDGE))?;
         }
         Ok(Table { numbers })
+    }
+
+    /// How many edges there are.
+    pub(crate) fn edge_count(&self) -> usize
+        ensures { result ≡ count_by is_some self.now }
+    {
+        self.numbers.iter().filter(|number| **number != NO_EDGE).count()
     }
 
     /// The edge at a place.
