@@ -1,4 +1,5 @@
 pub mod BikeLimits
+pub mod BranchLemmas
 pub mod CanonicalLemmas
 pub mod ChainLemmas
 pub mod DemandLemmas

@@ -1,20 +1,17 @@
 -- Rows of demands, and the sets of the words that meet one of them.
-use Rattle.std.proofs.Common.{◌≡◌, ℕ, ◌+◌, ◌<◌, ◌≤◌, nat_lt, Bool, true, false, ◌&&◌, ◌||◌, List, [], ◌∷◌, ◌++◌, take, drop, length, get_or, slice_get, Some, All, inl, inr, refl, sym, ap, ◌∙◌, subst, arith}
+use Rattle.std.proofs.Common.{◌≡◌, ℕ, ◌+◌, ◌<◌, nat_lt, Bool, true, false, ◌&&◌, ◌||◌, List, [], ◌∷◌, ◌++◌, take, drop, length, get_or, refl, sym, ap, ◌∙◌}
 use Rattle.std.specs.List.{list_any}
-use Rattle.std.proofs.lemmas.Bool.{ltb-true, ltb-false}
-use Rattle.std.proofs.lemmas.List.{take_more, length_push}
+use Rattle.std.proofs.lemmas.List.{take_more}
 use Rattle.std.proofs.lemmas.List.Folds.{list_any-append}
-use Rattle.std.proofs.lemmas.Option.{slice_get-get_or, slice_get_past}
 use Rattle.pc_diagram.specs.Words.{is_word}
 use Rattle.pc_store.specs.declared.id.Id.{Id}
 use Rattle.pc_store.specs.declared.store.Store.{Store}
-use Rattle.pc_store.specs.Sets.{domains_of, IsIdAt, has, has_in, leads, Keeps}
-use Rattle.pc_store.proofs.SetLemmas.{keeps_then}
-use Rattle.pc_apply.proofs.LevelLemmas.{last_or_before}
+use Rattle.pc_store.specs.Sets.{domains_of, has, leads, Keeps}
 use Rattle.pc_file.specs.Rule.{row_fits}
 use Rattle.pc_build.specs.declared.demand.Demand.{Demand}
 use Rattle.pc_build.specs.Chains.{leads_on}
 use Rattle.pc_build.specs.Demands.{meets, is_open, some_meets}
+use Rattle.pc_build.proofs.BranchLemmas.{Branches, branch_has}
 use Rattle.pc_build.proofs.CanonicalLemmas.{domains_split}
 use Rattle.pc_build.proofs.WordLemmas.{and_assoc}
 
@@ -59,62 +56,17 @@ free_more rows i row lt read free value other word h =
     alike =
         meets_after row value word ∙ ap (λ b. b && meets (drop 1 row) word) (free value ∙ sym (free other)) ∙ sym (meets_after row other word)
 
--- a set of the words from a layer on that pass a test
-pub record Tested (old now : Store) (layer : ℕ) (test : List ℕ → Bool) (id : Id) : Type 0 where
-  pub is_id : IsIdAt now layer id
-  pub words : (word : List ℕ) → has now id word ≡ (is_word (drop layer (domains_of old)) word && test word)
-
--- for each of the first values, the set of what goes on after it
-pub record Branches (old now : Store) (layer : ℕ) (rows : List (List Demand)) (count : ℕ) (children : List Id) : Type 0 where
-  pub width : length children ≡ count
-  pub each : (value : ℕ) (id : Id) → slice_get children value ≡ Some id → Tested old now (layer + 1) (λ word. some_meets rows (value ∷ word)) id
-  pub keeps : Keeps old now
-
-pub branches_none : (store : Store) (layer : ℕ) (rows : List (List Demand)) → Keeps store store → Branches store store layer rows 0 []
-branches_none store layer rows keeps = record { width = refl; each = λ value id at. absurd cc; keeps = keeps }
-
--- one value more
-pub branches_more : (old mid now : Store) (layer : ℕ) (rows rests : List (List Demand)) (count : ℕ) (children : List Id) (id : Id) → Branches old mid layer rows count children → ((word : List ℕ) → some_meets rests word ≡ some_meets rows (count ∷ word)) → Keeps mid now →
-    IsIdAt now (layer + 1) id → ((word : List ℕ) → has now id word ≡ (is_word (drop (layer + 1) (domains_of mid)) word && some_meets rests word)) → Branches old now layer rows (count + 1) (children ++ id ∷ [])
-branches_more old mid now layer rows rests count children id h goes keeps is_id words = record {
-  width = length_push children id ∙ ap (λ n. n + 1) h.width;
-  each = λ value x at. elim (last_or_before children id x value at) [
-    | inl before ↦ let b = h.each value x before in record { is_id = (keeps.ids x b.is_id.0, b.is_id.1); words = λ word. keeps.sets x b.is_id.0 word ∙ b.words word }
-    | inr last ↦ subst (Tested old now (layer + 1) (λ word. some_meets rows (value ∷ word))) (sym last.1) (subst (λ v. Tested old now (layer + 1) (λ word. some_meets rows (v ∷ word)) id) (sym (last.0 ∙ h.width)) here)
-  ];
-  keeps = keeps_then old mid now h.keeps keeps;
-}
-  where
-    here : Tested old now (layer + 1) (λ word. some_meets rows (count ∷ word)) id
-    here = record {
-      is_id = is_id;
-      words = λ word. words word ∙ (λ i. is_word (drop (layer + 1) (h.keeps.domains i)) word && goes word i);
-    }
-
-pub branches_at : (old now : Store) (layer : ℕ) (rows : List (List Demand)) (count : ℕ) (children : List Id) → Branches old now layer rows count children → All (IsIdAt now (layer + 1)) children
-branches_at old now layer rows count children h k d lt = (h.each k (get_or children k d) (slice_get-get_or children k d lt)).is_id
+-- for each of the first values, the set of the words that meet a row after it
+abbrev pub RestBranches : Store → Store → ℕ → List (List Demand) → ℕ → List Id → Type 0
+RestBranches old now layer rows = Branches old now (layer + 1) (λ value word. some_meets rows (value ∷ word))
 
 -- the words that go on in the branches of all values
-pub branches_words : (old now : Store) (layer : ℕ) (rows : List (List Demand)) (children : List Id) (word : List ℕ) → layer < length (domains_of old) → Branches old now layer rows (get_or (domains_of old) layer 0) children →
+pub branches_words : (old now : Store) (layer : ℕ) (rows : List (List Demand)) (children : List Id) (word : List ℕ) → layer < length (domains_of old) → RestBranches old now layer rows (get_or (domains_of old) layer 0) children →
     leads now children word ≡ (is_word (drop layer (domains_of old)) word && some_meets rows word)
 branches_words old now layer rows children [] lt h = sym (ap (λ l. is_word l [] && some_meets rows []) (domains_split old layer lt))
-branches_words old now layer rows children (value ∷ word) lt h = by (nat_lt value count) refl ∙ ap (λ l. is_word l (value ∷ word) && some_meets rows (value ∷ word)) (sym (domains_split old layer lt))
-  where
-    count : ℕ
-    count = get_or (domains_of old) layer 0
-
-    left_over : List ℕ
-    left_over = drop (layer + 1) (domains_of old)
-
-    by : (b : Bool) → nat_lt value count ≡ b → has_in now (slice_get children value) word ≡ ((nat_lt value count && is_word left_over word) && some_meets rows (value ∷ word))
-    by true e =
-        let below : value < length children = (let l = ltb-true value count e in let c = h.width in omega arith) in
-        let none : Id = record { layer = 0; node = 0 } in
-        let at : slice_get children value ≡ Some (get_or children value none) = slice_get-get_or children value none below in
-        ap (λ o. has_in now o word) at ∙ (h.each value (get_or children value none) at).words word ∙ ap (λ b. (b && is_word left_over word) && some_meets rows (value ∷ word)) (sym e)
-    by false e =
-        let past : length children ≤ value = (let l = ltb-false value count e in let c = h.width in omega arith) in
-        ap (λ o. has_in now o word) (slice_get_past children value past) ∙ ap (λ b. (b && is_word left_over word) && some_meets rows (value ∷ word)) (sym e)
+branches_words old now layer rows children (value ∷ word) lt h =
+    branch_has old now (layer + 1) (λ v w. some_meets rows (v ∷ w)) (get_or (domains_of old) layer 0) children h value word
+    ∙ ap (λ l. is_word l (value ∷ word) && some_meets rows (value ∷ word)) (sym (domains_split old layer lt))
 
 -- the words that begin with any value and go on where no row asks for one
 pub free_words : (old mid : Store) (layer : ℕ) (rows rests : List (List Demand)) (below : Id) (word : List ℕ) → layer < length (domains_of old) → Keeps old mid → ((value other : ℕ) (word : List ℕ) → some_meets rows (value ∷ word) ≡ some_meets rows (other ∷ word)) →
