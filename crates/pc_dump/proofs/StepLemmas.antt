@@ -245,9 +245,11 @@ module _ (b : Draft) (begun : IsBegun b) (is_end : length b.edges ≡ length b.d
   last_on raw later t g =
       let k = length b.edges in
       let rest = layers_left b raw g.sizes g.tables begun.closed t g.same_domains g.same_sizes g.same_tables in
-      let o = last_layer k x g.sizes g.tables later small (subst (λ y. AreLayers y g.sizes g.tables) none_left rest) (g.lines ∙ ap (λ y. layers k y g.sizes g.tables) none_left) in
-      (same_raw raw (tables_of (record b { sizes = b.sizes ++ x ∷ []; awaited = End })) g.same_domains
-      (g.same_sizes ∙ ap (λ y. b.sizes ++ y) o.same_sizes) (g.same_tables ∙ ap (λ y. b.edges ++ y) o.same_tables ∙ append-nil b.edges), o.lines)
+      let o = last_layer k x g.sizes g.tables later small (subst (λ y. AreLayers y g.sizes g.tables) none_left rest) (g.lines ∙ ap (λ y. layers k y g.sizes g.tables) none_left) in (
+        same_raw raw (tables_of (record b { sizes = b.sizes ++ x ∷ []; awaited = End })) g.same_domains
+            (g.same_sizes ∙ ap (λ y. b.sizes ++ y) o.same_sizes) (g.same_tables ∙ ap (λ y. b.edges ++ y) o.same_tables ∙ append-nil b.edges),
+        o.lines,
+      )
 
   pub last_back : (raw : RawDiagram) (later : List Words) → AreTables raw → (raw ≡ tables_of (record b { sizes = b.sizes ++ x ∷ []; awaited = End })) × (later ≡ end_words ∷ [])
       → GoesOn b raw (layer_words (length b.edges) x ∷ later)
