@@ -64,8 +64,7 @@ fn tell_printed(rt: &HostRuntime, file: &File) -> Result<()> {
 
 /// Prints what the plain list gives with the third variable's second value chosen, at most 660 of the first cost.
 fn tell_listing(rt: &HostRuntime, file: &File) -> Result<()> {
-    let mut choices = Choices::new(rt.alloc());
-    choices.choose(2, 1)?;
+    let choices = Choices::new(rt.alloc()).with(rt.alloc(), 2, 1)?;
     let bounds = Bounds {
         first: Some(660),
         second: None,
