@@ -14,6 +14,7 @@ pub(crate) fn layer_after(store: &Store, variable: u32) -> u32
     requires { variable < length (domains_of store.now) }
     ensures { result ≡ variable + 1 }
 {
+    // The proof reads here that a store has few variables.
     let _few = store.variables();
     variable + 1
 }
