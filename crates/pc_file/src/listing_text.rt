@@ -1,6 +1,6 @@
 //! The text of a listing.
 
-ghost use Rattle.std.specs.Prelude.{◌≡◌, ◌++◌, [], ◌∷◌, codes, OnOk, OnErr};
+ghost use Rattle.std.specs.Prelude.{◌≡◌, ◌++◌, ◌∷◌, codes, OnOk, OnErr};
 ghost use Rattle.std.specs.Fmt.{signed_decimal};
 ghost use Rattle.pc_file.specs.Grown.{HasGrown};
 ghost use Rattle.pc_file.specs.ListingText.{name_text, word_text, item_text, variable_text, listing_text};

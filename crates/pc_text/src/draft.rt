@@ -1,18 +1,16 @@
 //! Reading statements one after the other.
 
-ghost use Rattle.std.specs.Prelude.{◌≡◌, ◌==◌, ◌&&◌, ◌||◌, not, [], ◌∷◌, ◌<◌, ◌≤◌, codes, map, length, slice_index, Some, None, IfOk, IsErrOf, OnOk, Result};
+ghost use Rattle.std.specs.Prelude.{◌≡◌, ◌==◌, ◌&&◌, ◌||◌, not, [], ◌∷◌, ◌<◌, codes, length, slice_index, Some, None, IfOk, IsErrOf, Result};
 ghost use Rattle.pc_file.specs.Limits.{IsFile};
-ghost use Rattle.std.specs.List.{list_all, list_any};
+ghost use Rattle.std.specs.List.{list_any};
 ghost use Rattle.pc_names.specs.Spelling.{same_spelling};
-ghost use Rattle.pc_text.specs.Arguments.{bytes, IsOnlyFreeName, IsOnlyName, IsValueOf};
+ghost use Rattle.pc_text.specs.Arguments.{bytes};
 ghost use Rattle.pc_file.specs.declared.rule.Rule.{Rule};
 ghost use Rattle.pc_file.specs.PrintedSize.{with_line};
 ghost use Rattle.pc_rules.specs.declared.kind.Kind.{Kind};
-ghost use Rattle.pc_text.specs.Given.{argument, catalogue_of, contents_given, give, give_rule, give_statement, number_at, variables_given, with_value};
-ghost use Rattle.pc_text.specs.Orders.{is_cost_text, fault_of_rule, first_standing, or_else, orders_within, print_fault, rule_fault, statement_fault};
+ghost use Rattle.pc_text.specs.Given.{argument, catalogue_of, contents_given, give, give_rule, give_statement, variables_given};
+ghost use Rattle.pc_text.specs.Orders.{fault_of_rule, first_standing, or_else, orders_within, print_fault, rule_fault, statement_fault};
 ghost use Rattle.pc_text.specs.FirstFault.{line_fault, give_line};
-ghost use Rattle.std.specs.Option.{option_to_list};
-ghost use Rattle.pc_file.specs.Products.{value_counts, word_count};
 ghost use Rattle.pc_text.specs.Crowded.{is_crowded};
 ghost use Rattle.pc_names.specs.LineWords.{words};
 ghost use Rattle.pc_rules.specs.declared.kind.Kind.TheVariants.{Header};

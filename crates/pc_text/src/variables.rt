@@ -2,7 +2,7 @@
 
 ghost use Rattle.std.specs.Prelude.{◌≡◌, [], map, None, IfOk};
 ghost use Rattle.std.specs.Option.{option_to_list};
-ghost use Rattle.pc_file.specs.Limits.{variable_names, value_names};
+ghost use Rattle.pc_file.specs.Limits.{value_names};
 ghost use Rattle.pc_file.specs.Products.{value_counts, word_count};
 ghost use Rattle.pc_text.specs.Given.{catalogue_of, with_value};
 ghost use Rattle.pc_text.specs.Orders.{first_standing, values_in};

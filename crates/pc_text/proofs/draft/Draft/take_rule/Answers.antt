@@ -1,14 +1,10 @@
 -- The rule that was read is one more, and so is its printed line.
-use Rattle.std.proofs.Common.{◌≡◌, ℕ, Bool, false, nat_le, List, [], ◌∷◌, ◌++◌, length, map, Option, Some, None, Result, Ok, refl, sym, ap, subst, ◌∙◌, arith}
+use Rattle.std.proofs.Common.{◌≡◌, ℕ, Bool, false, nat_le, List, ◌++◌, length, Option, Some, None, Result, Ok, refl, sym, ap, subst, ◌∙◌, arith}
 use Rattle.std.specs.Prelude.{if◌then◌else◌}
-use Rattle.std.specs.Option.{option_map, option_to_list}
 use Rattle.std.proofs.lemmas.Bool.Decides.{nat_tests}
-use Rattle.std.proofs.lemmas.List.{append-nil}
-use Rattle.pc_file.specs.declared.catalogue.Catalogue.{Catalogue}
 use Rattle.pc_file.specs.declared.rule.Rule.{Rule}
 use Rattle.pc_file.specs.declared.sizes.TheConstants.{MOST_RULES}
 use Rattle.pc_file.specs.declared.variable.Variable.{Variable}
-use Rattle.pc_file.specs.Limits.{value_names, variable_names}
 use Rattle.pc_file.specs.PrintedForm.{rule_line}
 use Rattle.pc_file.specs.PrintedSize.{with_line}
 use Rattle.pc_file.proofs.LineSizeLemmas.{with_line-counted}
