@@ -1,3 +1,4 @@
+pub mod CheckLemmas
 pub mod OutcomeLemmas
 pub mod ScriptEnds
 pub mod ToldLemmas

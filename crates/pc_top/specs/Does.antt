@@ -2,8 +2,9 @@
 use Rattle.std.specs.Prelude.{◌≡◌, ℕ}
 use Rattle.pc_io.specs.Ends.{Ends}
 use Rattle.pc_top.specs.declared.form.Form.{Form}
-use Rattle.pc_top.specs.declared.form.Form.TheVariants.{List, Dump, Script}
+use Rattle.pc_top.specs.declared.form.Form.TheVariants.{List, Dump, Check, Script}
 use Rattle.pc_top.specs.declared.status.Status.{Status}
+use Rattle.pc_top.specs.CheckOutcome.{Checks}
 use Rattle.pc_top.specs.ScriptStatus.{RunsScript}
 use Rattle.pc_top.specs.Status.{code}
 use Rattle.pc_top.specs.TextOutcome.{Dumps, Lists}
@@ -12,6 +13,7 @@ use Rattle.pc_top.specs.TextOutcome.{Dumps, Lists}
 abbrev pub Does : Form → Status → Ends → Ends → Type 0
 Does List = Lists
 Does Dump = Dumps
+Does Check = Checks
 Does Script = RunsScript
 
 -- the same, with the exit status

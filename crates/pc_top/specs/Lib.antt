@@ -1,3 +1,5 @@
+pub mod CheckMeans
+pub mod CheckOutcome
 pub mod Does
 pub mod DumpMeans
 pub mod ListMeans

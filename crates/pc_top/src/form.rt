@@ -10,6 +10,8 @@ pub enum Form {
     List,
     /// `dump`: a product text in, the text of its diagram out.
     Dump,
+    /// `check`: a dump in, how many nodes and edges its diagram has out.
+    Check,
     /// `script`: lines of commands in, their answers out.
     Script,
 }
@@ -32,6 +34,8 @@ impl Form {
             Some(Form::List)
         } else if word == b"dump".as_slice() {
             Some(Form::Dump)
+        } else if word == b"check".as_slice() {
+            Some(Form::Check)
         } else if word == b"script".as_slice() {
             Some(Form::Script)
         } else {

@@ -1,6 +1,7 @@
 //! The program: what each form of the command line reads and writes, over any source and sink.
 #![tactic(auto)]
 
+mod checking;
 mod form;
 mod program;
 mod reply;

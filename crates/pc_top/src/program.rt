@@ -7,6 +7,7 @@ ghost use Rattle.pc_top.specs.declared.status.Status.TheVariants.{ReadFault, Wri
 ghost use Rattle.pc_top.specs.Does.{Does, Exits};
 ghost use Rattle.pc_top.specs.Words.{form_of};
 
+use crate::checking::check;
 use crate::form::Form;
 use crate::script::script;
 use crate::status::Status;
@@ -63,6 +64,7 @@ fn do_form<S: Source, K: Sink>(alloc: Global, form: Form, source: &mut S, sink: 
     match form {
         Form::List => answer_text(alloc, TextJob::List, source, sink),
         Form::Dump => answer_text(alloc, TextJob::Dump, source, sink),
+        Form::Check => check(alloc, source, sink),
         Form::Script => script(alloc, source, sink),
     }
 }
