@@ -16,10 +16,10 @@ use Rattle.pc_dump.proofs.WordLemmas.{edge_injective, map_injective, number_inje
 abbrev Table : Type 0
 Table = List (Option ℕ)
 
-cons_head : {X : Type 0} (x y : X) (xs ys : List X) → x ∷ xs ≡ y ∷ ys → x ≡ y
+pub cons_head : {X : Type 0} (x y : X) (xs ys : List X) → x ∷ xs ≡ y ∷ ys → x ≡ y
 cons_head x y xs ys e = cc
 
-cons_tail : {X : Type 0} (x y : X) (xs ys : List X) → x ∷ xs ≡ y ∷ ys → xs ≡ ys
+pub cons_tail : {X : Type 0} (x y : X) (xs ys : List X) → x ∷ xs ≡ y ∷ ys → xs ≡ ys
 cons_tail x y xs ys e = cc
 
 -- a draft that awaits this
@@ -112,7 +112,7 @@ record Opened (k d x : ℕ) (ds ss : List ℕ) (ts : List Table) (later : List W
   pub same_tables : ts ≡ table ∷ tables
   pub lines : later ≡ nodes d x table ++ layers (k + 1) ds sizes tables
 
-size_told : (k x s : ℕ) → layer_words k x ≡ layer_words k s → decimal x ≡ decimal s
+pub size_told : (k x s : ℕ) → layer_words k x ≡ layer_words k s → decimal x ≡ decimal s
 size_told k x s e =
     let tail = cons_tail (codes "layer") (codes "layer") (decimal k ∷ decimal x ∷ []) (decimal k ∷ decimal s ∷ []) e in
     let last = cons_tail (decimal k) (decimal k) (decimal x ∷ []) (decimal s ∷ []) tail in
@@ -245,9 +245,11 @@ module _ (b : Draft) (begun : IsBegun b) (is_end : length b.edges ≡ length b.d
   last_on raw later t g =
       let k = length b.edges in
       let rest = layers_left b raw g.sizes g.tables begun.closed t g.same_domains g.same_sizes g.same_tables in
-      let o = last_layer k x g.sizes g.tables later small (subst (λ y. AreLayers y g.sizes g.tables) none_left rest) (g.lines ∙ ap (λ y. layers k y g.sizes g.tables) none_left) in
-      (same_raw raw (tables_of (record b { sizes = b.sizes ++ x ∷ []; awaited = End })) g.same_domains
-      (g.same_sizes ∙ ap (λ y. b.sizes ++ y) o.same_sizes) (g.same_tables ∙ ap (λ y. b.edges ++ y) o.same_tables ∙ append-nil b.edges), o.lines)
+      let o = last_layer k x g.sizes g.tables later small (subst (λ y. AreLayers y g.sizes g.tables) none_left rest) (g.lines ∙ ap (λ y. layers k y g.sizes g.tables) none_left) in (
+        same_raw raw (tables_of (record b { sizes = b.sizes ++ x ∷ []; awaited = End })) g.same_domains
+            (g.same_sizes ∙ ap (λ y. b.sizes ++ y) o.same_sizes) (g.same_tables ∙ ap (λ y. b.edges ++ y) o.same_tables ∙ append-nil b.edges),
+        o.lines,
+      )
 
   pub last_back : (raw : RawDiagram) (later : List Words) → AreTables raw → (raw ≡ tables_of (record b { sizes = b.sizes ++ x ∷ []; awaited = End })) × (later ≡ end_words ∷ [])
       → GoesOn b raw (layer_words (length b.edges) x ∷ later)

@@ -161,7 +161,8 @@ impl Draft {
             return Ok(());
         }
         self.sizes.push(size)?;
-        self.edges.push(mem::replace(&mut self.rows, Sequence::new(alloc)))?;
+        self.edges
+            .push(mem::replace(&mut self.rows, Sequence::new(alloc)))?;
         self.awaited = Awaited::Layer;
         Ok(())
     }

@@ -53,7 +53,10 @@ pub(crate) fn layer_line(words: &[&[u8]]) -> Option<LayerLine>
 }
 
 /// The numbers that the words of the second line give.
-pub(crate) fn domains_line(alloc: Global, words: &[&[u8]]) -> Result<Option<Sequence<u32>>, NoMemory>
+pub(crate) fn domains_line(
+    alloc: Global,
+    words: &[&[u8]],
+) -> Result<Option<Sequence<u32>>, NoMemory>
     ensures is { IfOk result (λ found. IfSome found (λ domains. map (λ word. word.now) words.now ≡ domains_words domains)) }
     ensures small { IfOk result (λ found. IfSome found (All IsNumber)) }
     ensures every { result ≡ Ok None → (domains : List ℕ) → All IsNumber domains → map (λ word. word.now) words.now ≢ domains_words domains }
@@ -92,8 +95,7 @@ pub(crate) fn push_node_line(
 {
     match words {
         [first, edges @ ..] if is_word(first, b"n") && edges.len() == count as usize => push_edges(
-            table,
-            edges,
+            table, edges,
         ),
         _ => Ok(false),
     }

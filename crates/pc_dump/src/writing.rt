@@ -18,11 +18,7 @@ pub fn push_dump(text: &mut Text, diagram: &Diagram) -> Result<(), NoMemory>
     push_lines::<Brand>(text, diagram, Blank::new(1))
 }
 
-fn push_lines<L: Ledger>(
-    text: &mut Text,
-    diagram: &Diagram,
-    blank: Blank,
-) -> Result<(), NoMemory>
+fn push_lines<L: Ledger>(text: &mut Text, diagram: &Diagram, blank: Blank) -> Result<(), NoMemory>
     requires name { blank.name ≡ L.name }
     requires parts { blank.parts ≡ L.parts }
     requires some { 0 < blank.parts }

@@ -19,9 +19,9 @@ returns-after-not-branch c taken has =
     let count : before.count + 1 ≡ length (taken ++ line ∷ []) = omega (arith, has.count, length-append taken (line ∷ [])) in
     elim c.if-not-branch.branch [
       | then-not-branch w ↦
-        let refuses : Refuses line before.draft = subst (λ x. Refuses x before.draft) words (c.in_ok-take-in-None.ensures.refused (ap (λ x. Ok x) w.if-not-branch.true)) in
-        rw w.self-is (record { count = count; judged = wrong_here before.draft taken line (before.count + 1) read refuses (ap (λ n. n + 1) has.count) })
+          let refuses : Refuses line before.draft = subst (λ x. Refuses x before.draft) words (c.in_ok-take-in-None.ensures.refused (ap (λ x. Ok x) w.if-not-branch.true)) in
+          rw w.self-is (record { count = count; judged = wrong_here before.draft taken line (before.count + 1) read refuses (ap (λ n. n + 1) has.count) })
       | else-not-branch w ↦
-        let takes : TakesLine line before.draft after = subst (λ x. TakesLine x before.draft after) words (c.in_ok-take-in-None.ensures.taken (ap (λ x. Ok x) w.if-not-branch.false)) in
-        rw w.self-is (record { count = count; judged = subst (λ m. IsJudged m after (taken ++ line ∷ [])) (sym c.in-None.is) (read_on before.draft after taken line read takes) })
+          let takes : TakesLine line before.draft after = subst (λ x. TakesLine x before.draft after) words (c.in_ok-take-in-None.ensures.taken (ap (λ x. Ok x) w.if-not-branch.false)) in
+          rw w.self-is (record { count = count; judged = subst (λ m. IsJudged m after (taken ++ line ∷ [])) (sym c.in-None.is) (read_on before.draft after taken line read takes) })
     ]
