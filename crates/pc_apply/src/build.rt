@@ -7,6 +7,7 @@ ghost use Rattle.pc_apply.specs.Levels.{InRange, Picks, IsOver, CarriedOut, Each
 
 use crate::plan::Plan;
 use pc_base::NoMemory;
+use pc_diagram::MOST_VARIABLES;
 use pc_store::{Id, Store};
 use std::alloc::Global;
 
@@ -20,7 +21,7 @@ pub(crate) fn carry_out_all(
     below: &[Id],
 ) -> Result<Vec<Id>, NoMemory>
     requires inner { layer < length (domains_of store.old) }
-    requires few { layer < 64 }
+    requires few { layer < MOST_VARIABLES }
     requires below { All (IsIdAt store.old (layer + 1)) below.now }
     requires plans { (place : ℕ) (plan : Plan) → slice_get plans.now place ≡ Some plan
         → InRange targets.now (slice_index (domains_of store.old) layer) (length below.now) plan }
@@ -45,7 +46,7 @@ fn carry_out(
     children: &mut Vec<Id>,
 ) -> Result<Id, NoMemory>
     requires inner { layer < length (domains_of store.old) }
-    requires few { layer < 64 }
+    requires few { layer < MOST_VARIABLES }
     requires below { All (IsIdAt store.old (layer + 1)) below.now }
     requires plan { InRange targets.now (slice_index (domains_of store.old) layer) (length below.now) plan }
     ensures id { IfOk result (CarriedOut store.old store.new layer targets.now (slice_index (domains_of store.old) layer) below.now plan) }
@@ -71,7 +72,7 @@ fn node_over(
     children: &mut Vec<Id>,
 ) -> Result<Id, NoMemory>
     requires inner { layer < length (domains_of store.old) }
-    requires few { layer < 64 }
+    requires few { layer < MOST_VARIABLES }
     requires below { All (IsIdAt store.old (layer + 1)) below.now }
     requires width { length places.now ≡ slice_index (domains_of store.old) layer }
     requires in_range { All (λ place. place < length below.now) places.now }

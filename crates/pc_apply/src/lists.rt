@@ -3,10 +3,9 @@
 ghost use Rattle.std.specs.Prelude.{◌≡◌, ◌<◌, [], Some, length, slice_get, slice_index_or, IfOk, IfSome, OnOk};
 ghost use Rattle.pc_apply.specs.Lists.{IsWith};
 
-use crate::states::number;
 use indexmap::IndexSet;
 use pc_base::NoMemory;
-use pc_store::Node;
+use pc_store::{Node, number};
 use std::alloc::Global;
 use std::marker::Model;
 

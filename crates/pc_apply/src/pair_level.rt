@@ -7,10 +7,11 @@ ghost use Rattle.pc_apply.specs.Pairs.{HasBoth, pairs_at};
 
 use crate::pair::{Operation, Pair};
 use crate::plan::Plan;
-use crate::states::{number, place};
+use crate::states::place;
 use indexmap::IndexSet;
 use pc_base::NoMemory;
-use pc_store::Store;
+use pc_diagram::MOST_VARIABLES;
+use pc_store::{Store, number};
 use std::alloc::Global;
 
 /// How the sets of the pairs of one layer are got from those of the different pairs of the next.
@@ -30,7 +31,7 @@ pub(crate) fn plan_pairs(
     pairs: &[Pair],
 ) -> Result<PairLevel, NoMemory>
     requires inner { layer < length (domains_of store.now) }
-    requires few { layer < 64 }
+    requires few { layer < MOST_VARIABLES }
     requires sets { AllAt (HasBoth store.now layer) pairs.now }
     ensures { IfOk result (λ level. EachFits store.now layer (pairs_at store.now layer operation) (pairs_at store.now (layer + 1) operation) pairs.now level.below.keys level.targets.items level.plans.items) }
 {
@@ -57,7 +58,7 @@ fn plan_pair(
     below: &mut IndexSet<Pair>,
 ) -> Result<Plan, NoMemory>
     requires inner { layer < length (domains_of store.now) }
-    requires few { layer < 64 }
+    requires few { layer < MOST_VARIABLES }
     requires sets { HasBoth store.now layer pair }
     requires below { AllAt (HasBoth store.now (layer + 1)) below.old.keys }
     ensures plan { IfOk result (Fits store.now layer (pairs_at store.now layer operation) (pairs_at store.now (layer + 1) operation) pair below.new.keys targets.new.items) }
@@ -82,7 +83,7 @@ fn expand_pair(
     below: &mut IndexSet<Pair>,
 ) -> Result<(), NoMemory>
     requires inner { layer < length (domains_of store.now) }
-    requires few { layer < 64 }
+    requires few { layer < MOST_VARIABLES }
     requires sets { HasBoth store.now layer pair }
     requires below { AllAt (HasBoth store.now (layer + 1)) below.old.keys }
     ensures leads { OnOk result ((operation : Operation) → LeadsFrom store.now layer (pairs_at store.now layer operation) (pairs_at store.now (layer + 1) operation) pair below.new.keys targets.new.items (length targets.old.items) (slice_index (domains_of store.now) layer)) }

@@ -9,11 +9,11 @@ ghost use Rattle.pc_apply.specs.Quotas.{IsQuotaOf, quotas_at};
 use crate::lists::Lists;
 use crate::plan::Plan;
 use crate::quota::Quota;
-use crate::states::{number, place_near};
+use crate::states::place_near;
 use crate::step::NextLists;
 use indexmap::IndexSet;
 use pc_base::NoMemory;
-use pc_store::Store;
+use pc_store::{Store, number};
 use std::alloc::Global;
 
 /// How the sets of the quotas of one layer are got from those of the different quotas of the next.

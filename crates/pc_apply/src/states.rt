@@ -5,6 +5,7 @@ ghost use Rattle.pc_apply.specs.Levels.{StandsFor, with_state};
 
 use indexmap::IndexSet;
 use pc_base::NoMemory;
+use pc_store::number;
 use std::hash::Hash;
 
 /// The place of a state, which goes to the end if it isn't there.
@@ -37,11 +38,4 @@ pub(crate) fn place_near<S: Eq + Hash + Drop>(
         }
     }
     place(states, state)
-}
-
-/// A place as a number of 32 bits.
-pub(crate) fn number(place: usize) -> Result<u32, NoMemory>
-    ensures { IfOk result (λ n. n ≡ place) }
-{
-    u32::try_from(place).map_err(|_| NoMemory)
 }

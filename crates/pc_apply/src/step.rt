@@ -7,6 +7,7 @@ ghost use Rattle.pc_apply.specs.Lists.{ListsAt, AreRows, IsBefore, HasSteps, Hav
 use crate::lists::Lists;
 use crate::split::Split;
 use pc_base::NoMemory;
+use pc_diagram::MOST_VARIABLES;
 use pc_store::{Children, Node, Store};
 use std::alloc::Global;
 
@@ -39,7 +40,7 @@ pub(crate) fn next_lists(
     lists: &Lists,
 ) -> Result<NextLists, NoMemory>
     requires inner { layer < length (domains_of store.now) }
-    requires few { layer < 64 }
+    requires few { layer < MOST_VARIABLES }
     requires lists { ListsAt store.now layer lists.now }
     ensures steps { IfOk result (λ next. HaveSteps store.now layer lists.now next.lists next.steps.items) }
     ensures lists { IfOk result (λ next. ListsAt store.now (layer + 1) next.lists) }
@@ -61,7 +62,7 @@ fn steps_of(
     below: &mut Lists,
 ) -> Result<Vec<Steps>, NoMemory>
     requires inner { layer < length (domains_of store.now) }
-    requires few { layer < 64 }
+    requires few { layer < MOST_VARIABLES }
     requires lists { ListsAt store.now layer lists.now }
     requires below { ListsAt store.now (layer + 1) below.old }
     ensures steps { IfOk result (λ steps. HaveSteps store.now layer lists.now below.new steps.items) }
@@ -83,7 +84,7 @@ fn steps_of_list(
     below: &mut Lists,
 ) -> Result<Steps, NoMemory>
     requires inner { layer < length (domains_of store.now) }
-    requires few { layer < 64 }
+    requires few { layer < MOST_VARIABLES }
     requires sets { All (IsNodeAt store.now layer) sets.now }
     requires below { ListsAt store.now (layer + 1) below.old }
     ensures steps { IfOk result (HasSteps store.now layer sets.now below.new) }

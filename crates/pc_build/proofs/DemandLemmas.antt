@@ -1,18 +1,12 @@
 -- Demands of a row, and the words that meet them.
-use Rattle.std.proofs.Common.{◌≡◌, ℕ, zero, suc, ◌+◌, ◌<◌, ◌≤◌, nat_eq, nat_lt, Bool, true, false, ◌&&◌, List, [], ◌∷◌, ◌++◌, take, drop, replicate, set, length, get_or, refl, sym, ap, ◌∙◌, arith}
+use Rattle.std.proofs.Common.{◌≡◌, ℕ, zero, suc, ◌+◌, ◌<◌, nat_eq, Bool, true, false, ◌&&◌, List, [], ◌∷◌, ◌++◌, take, replicate, set, length, get_or, refl, sym, ap, ◌∙◌, arith}
 use Rattle.std.specs.List.{list_all, zip}
-use Rattle.std.proofs.lemmas.List.{length-replicate, length-set, drop_more, drop_all, take_more}
+use Rattle.std.proofs.lemmas.List.{length-replicate, length-set, take_more}
 use Rattle.std.proofs.lemmas.List.Folds.{list_all-append}
 use Rattle.std.proofs.lemmas.Slice.Zip.{length-zip, get_or-zip}
-use Rattle.pc_diagram.specs.Words.{is_word}
 use Rattle.pc_diagram.specs.Fitting.{takes}
-use Rattle.pc_store.specs.declared.id.Id.{Id}
-use Rattle.pc_store.specs.declared.store.Store.{Store}
-use Rattle.pc_store.specs.Sets.{domains_of, IsIdAt, has, Keeps}
-use Rattle.pc_store.proofs.SetLemmas.{keeps_then}
 use Rattle.pc_build.specs.declared.demand.Demand.{Demand}
 use Rattle.pc_build.specs.declared.demand.Demand.TheVariants.{Any}
-use Rattle.pc_build.specs.Chains.{leads_on}
 use Rattle.pc_build.specs.Demands.{allows, meets}
 use Rattle.pc_build.proofs.WordLemmas.{and_assoc, and_true}
 
@@ -25,12 +19,6 @@ and_last true true c = and_true c
 and_last true false true = refl
 and_last true false false = refl
 and_last false b c = refl
-
-and_cross : (a b c d : Bool) → (a && (b && (c && d))) ≡ ((a && c) && (b && d))
-and_cross true true c d = refl
-and_cross true false true d = refl
-and_cross true false false d = refl
-and_cross false b c d = refl
 
 -- one demand more
 pub meets_with : (demands : List Demand) (word : List ℕ) (place value : ℕ) (demand d : Demand) → length word ≡ length demands → place < length demands → ((taken : ℕ) → allows demand taken ≡ (allows (get_or demands place d) taken && nat_eq taken value)) → meets (set demands place demand) word ≡ (meets demands word && takes word place value)
@@ -72,46 +60,3 @@ asked_more count pairs demands variable value demand d lt h with_value = record 
       ∙ ap (λ b. takes_each word pairs && b) (sym (and_true (takes word variable value)))
       ∙ sym (list_all-append (λ (p : ℕ × ℕ). takes word p.0 p.1) pairs ((variable, value) ∷ []));
 }
-
--- a set of the rests that meet the demands of a layer and those after it
-pub record Meeting (old now : Store) (demands : List Demand) (layer : ℕ) (id : Id) : Type 0 where
-  pub is_id : IsIdAt now layer id
-  pub words : (word : List ℕ) → has now id word ≡ (is_word (drop layer (domains_of old)) word && meets (drop layer demands) word)
-  pub keeps : Keeps old now
-
-pub meeting_none : (store : Store) (demands : List Demand) (layer : ℕ) (id : Id) → length demands ≤ layer → IsIdAt store layer id → ((word : List ℕ) → has store id word ≡ is_word (drop layer (domains_of store)) word) → Keeps store store → Meeting store store demands layer id
-meeting_none store demands layer id past is words keeps = record {
-  is_id = is;
-  words = λ word. words word ∙ sym (ap (λ l. is_word (drop layer (domains_of store)) word && meets l word) (drop_all layer demands past) ∙ and_true (is_word (drop layer (domains_of store)) word));
-  keeps = keeps;
-}
-
-pub meeting_more : (old mid now : Store) (demands : List Demand) (layer : ℕ) (demand : Demand) (below id : Id) → layer < length (domains_of old) → length demands ≡ length (domains_of old) → demand ≡ get_or demands layer demand → Meeting old mid demands (layer + 1) below → IsIdAt now layer id →
-    ((word : List ℕ) → has now id word ≡ leads_on mid (get_or (domains_of mid) layer 0) (allows demand) below word) → Keeps mid now → Meeting old now demands layer id
-meeting_more old mid now demands layer demand below id lt alike read h is_id words keeps = record {
-  is_id = is_id;
-  words = by;
-  keeps = keeps_then old mid now h.keeps keeps;
-}
-  where
-    domains : List ℕ
-    domains = domains_of old
-
-    count : ℕ
-    count = get_or domains layer 0
-
-    first : drop layer domains ≡ count ∷ drop (layer + 1) domains
-    first = drop_more domains layer 0 lt
-
-    first_demand : drop layer demands ≡ demand ∷ drop (layer + 1) demands
-    first_demand = drop_more demands layer demand (omega arith) ∙ ap (λ d. d ∷ drop (layer + 1) demands) (sym read)
-
-    by : (word : List ℕ) → has now id word ≡ (is_word (drop layer domains) word && meets (drop layer demands) word)
-    by [] = words [] ∙ sym (ap (λ l. is_word l [] && meets (drop layer demands) []) first)
-    by (value ∷ word) =
-        words (value ∷ word)
-        ∙ ap (λ d. nat_lt value (get_or d layer 0) && (allows demand value && has mid below word)) h.keeps.domains
-        ∙ ap (λ b. nat_lt value count && (allows demand value && b)) (h.words word)
-        ∙ and_cross (nat_lt value count) (allows demand value) (is_word (drop (layer + 1) domains) word) (meets (drop (layer + 1) demands) word)
-        ∙ ap (λ l. is_word l (value ∷ word) && (allows demand value && meets (drop (layer + 1) demands) word)) (sym first)
-        ∙ ap (λ l. is_word (drop layer domains) (value ∷ word) && meets l (value ∷ word)) (sym first_demand)

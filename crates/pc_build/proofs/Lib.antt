@@ -1,4 +1,5 @@
 pub mod BikeLimits
+pub mod BranchLemmas
 pub mod CanonicalLemmas
 pub mod ChainLemmas
 pub mod DemandLemmas
@@ -7,6 +8,7 @@ pub mod ExtractLemmas
 pub mod NamedLemmas
 pub mod SameLemmas
 pub mod TablesLemmas
+pub mod TrieLemmas
 pub mod WordLemmas
 pub mod FaultLemmas
 pub mod MakingLemmas

@@ -1,5 +1,5 @@
 -- Sets that were made, one after another.
-use Rattle.std.proofs.Common.{◌≡◌, ℕ, zero, suc, ◌+◌, ◌<◌, ◌≤◌, nat_lt, drop, Bool, true, false, ◌&&◌, ◌||◌, List, [], ◌∷◌, ◌++◌, length, take, get_or, slice_get, Some, inl, inr, ◌⊎◌, refl, sym, ap, ◌∙◌, subst, arith, append_assoc, length-append}
+use Rattle.std.proofs.Common.{◌≡◌, ℕ, suc, ◌+◌, ◌<◌, ◌≤◌, nat_lt, drop, Bool, true, false, ◌&&◌, ◌||◌, List, [], ◌∷◌, ◌++◌, length, take, get_or, slice_get, Some, inl, inr, refl, sym, ap, ◌∙◌, subst, arith, append_assoc, length-append}
 use Rattle.std.specs.List.{list_any, flat_map}
 use Rattle.std.proofs.lemmas.List.{append-nil, take_more, take-append-le, take-append-drop, length_push}
 use Rattle.std.proofs.lemmas.List.Folds.{list_any-append}
@@ -12,6 +12,7 @@ use Rattle.pc_diagram.specs.Words.{is_word}
 use Rattle.pc_store.specs.declared.id.Id.{Id}
 use Rattle.pc_store.specs.declared.store.Store.{Store}
 use Rattle.pc_store.specs.Sets.{domains_of, layer_of, IsIdAt, has, Keeps}
+use Rattle.pc_apply.proofs.LevelLemmas.{last_or_before, still}
 use Rattle.pc_file.specs.declared.variable.Variable.{Variable}
 use Rattle.pc_file.specs.declared.rule.Rule.{Rule}
 use Rattle.pc_file.specs.Rule.{holds}
@@ -20,18 +21,7 @@ use Rattle.pc_build.specs.declared.fault.PartFault.{PartFault}
 use Rattle.pc_build.specs.declared.fault.PartFault.TheVariants.{TooLarge, NoMemory}
 use Rattle.pc_build.specs.Making.{Denotes, DenoteEach, AllMade, StopsAt, Stopped}
 
--- what stands in a list stands in it where it goes on, and what stands after it further on
-still : {X : Type 0} (xs ys : List X) (k : ℕ) (x : X) → slice_get xs k ≡ Some x → slice_get (xs ++ ys) k ≡ Some x
-still [] ys k x h = absurd cc
-still (z ∷ xs) ys zero x h = h
-still (z ∷ xs) ys (suc k) x h = still xs ys k x h
-
-last_or_before : {X : Type 0} (xs : List X) (x y : X) (k : ℕ) → slice_get (xs ++ x ∷ []) k ≡ Some y → (slice_get xs k ≡ Some y) ⊎ ((k ≡ length xs) × (y ≡ x))
-last_or_before [] x y zero h = inr (refl, cc)
-last_or_before [] x y (suc k) h = absurd cc
-last_or_before (z ∷ xs) x y zero h = inl h
-last_or_before (z ∷ xs) x y (suc k) h = elim (last_or_before xs x y k h) [ inl before ↦ inl before | inr last ↦ inr (ap suc last.0, last.1) ]
-
+-- what stands after a list stands further on where the list goes on
 pub later : {X : Type 0} (xs ys : List X) (k : ℕ) (x : X) → slice_get ys k ≡ Some x → slice_get (xs ++ ys) (length xs + k) ≡ Some x
 later [] ys k x h = subst (λ n. slice_get ys n ≡ Some x) (let same : k ≡ 0 + k = omega arith in same) h
 later (z ∷ xs) ys k x h = subst (λ n. slice_get (z ∷ (xs ++ ys)) n ≡ Some x) (let same : suc (length xs + k) ≡ suc (length xs) + k = omega arith in same) (later xs ys k x h)

@@ -1,22 +1,20 @@
 -- Words that take values of one name at two variables.
-use Rattle.std.proofs.Common.{◌≡◌, ℕ, zero, suc, ◌+◌, ◌-◌, ◌<◌, ◌≤◌, nat_eq, nat_lt, Bool, true, false, ◌&&◌, List, [], ◌∷◌, ◌++◌, drop, length, get_or, slice_get, Option, None, Some, All, refl, sym, ap, ◌∙◌, subst, arith, inl, inr}
+use Rattle.std.proofs.Common.{◌≡◌, ℕ, zero, suc, ◌+◌, ◌-◌, ◌<◌, nat_eq, nat_lt, Bool, true, false, ◌&&◌, List, [], ◌∷◌, ◌++◌, drop, length, get_or, slice_get, Option, None, Some, refl, sym, ap, ◌∙◌, arith, inl, inr}
 use Rattle.std.specs.Prelude.{option_and_then}
 use Rattle.std.specs.Option.{option_map}
 use Rattle.std.specs.Cmp.Lexicographic.{pointwise}
-use Rattle.std.proofs.lemmas.Bool.{ltb-true, ltb-false, and_parts, eq-eqb, ne_eqb, cases_eq}
-use Rattle.std.proofs.lemmas.List.{drop_more, length_push}
-use Rattle.std.proofs.lemmas.Option.{slice_get-get_or, slice_get_past}
+use Rattle.std.proofs.lemmas.Bool.{and_parts, eq-eqb, ne_eqb, cases_eq}
+use Rattle.std.proofs.lemmas.List.{drop_more}
 use Rattle.pc_diagram.specs.Words.{is_word}
 use Rattle.pc_store.specs.declared.id.Id.{Id}
 use Rattle.pc_store.specs.declared.store.Store.{Store}
-use Rattle.pc_store.specs.Sets.{domains_of, IsIdAt, has, has_in, leads, Keeps}
-use Rattle.pc_store.proofs.SetLemmas.{keeps_then}
-use Rattle.pc_apply.proofs.LevelLemmas.{last_or_before}
+use Rattle.pc_store.specs.Sets.{domains_of, IsIdAt, has, leads, Keeps}
 use Rattle.pc_file.specs.declared.variable.Value.{Value}
 use Rattle.pc_file.specs.declared.variable.Variable.{Variable}
 use Rattle.pc_file.specs.Names.{taken_name}
 use Rattle.pc_file.specs.Rule.{same_name}
 use Rattle.pc_build.specs.Named.{name_of, name_at}
+use Rattle.pc_build.proofs.BranchLemmas.{Branches, branches_more, branch_has}
 
 -- names are the same in either order
 pub same_name-swap : (a b : Option (List ℕ)) → same_name a b ≡ same_name b a
@@ -64,68 +62,25 @@ pub taken_name_is : (variables : List Variable) (place : ℕ) (variable : Variab
 taken_name_is variables place variable word e =
     ap (λ (o : Option Variable). option_and_then (λ value. option_and_then (λ v. option_map (λ a. a.name) (slice_get v.values value)) o) (slice_get word place)) e
 
--- a set of the words of a layer that take a value of this name at a place
-pub record TakesName (old now : Store) (layer place : ℕ) (name : Option (List ℕ)) (others : List Value) (id : Id) : Type 0 where
-  pub is_id : IsIdAt now layer id
-  pub words : (word : List ℕ) → has now id word ≡ (is_word (drop layer (domains_of old)) word && same_name name (name_at others word place))
-
--- such a set for each of the first values
-pub record Rests (old now : Store) (layer place : ℕ) (values others : List Value) (done : ℕ) (rests : List Id) : Type 0 where
-  pub count : length rests ≡ done
-  pub each : (value : ℕ) (id : Id) → slice_get rests value ≡ Some id → TakesName old now layer place (name_of values value) others id
-  pub keeps : Keeps old now
-
-pub rests_none : (store : Store) (layer place : ℕ) (values others : List Value) → Keeps store store → Rests store store layer place values others 0 []
-rests_none store layer place values others keeps = record { count = refl; each = λ value id at. absurd cc; keeps = keeps }
-
-takes_later : (old mid now : Store) (layer place : ℕ) (name : Option (List ℕ)) (others : List Value) (id : Id) → Keeps mid now → TakesName old mid layer place name others id → TakesName old now layer place name others id
-takes_later old mid now layer place name others id keeps h = record {
-  is_id = (keeps.ids id h.is_id.0, h.is_id.1);
-  words = λ word. keeps.sets id h.is_id.0 word ∙ h.words word;
-}
+-- for each of the first values, the set of the words of a layer that take a value of its name at a place
+abbrev pub Rests : Store → Store → ℕ → ℕ → List Value → List Value → ℕ → List Id → Type 0
+Rests old now layer place values others = Branches old now layer (λ value word. same_name (name_of values value) (name_at others word place))
 
 pub rests_more : (old mid now : Store) (layer place : ℕ) (values others : List Value) (done : ℕ) (rests : List Id) (id : Id) (name : List ℕ) → Rests old mid layer place values others done rests → name_of values done ≡ Some name → Keeps mid now → IsIdAt now layer id →
     ((word : List ℕ) → has now id word ≡ (is_word (drop layer (domains_of mid)) word && same_name (Some name) (name_at others word place))) → Rests old now layer place values others (done + 1) (rests ++ id ∷ [])
-rests_more old mid now layer place values others done rests id name h named keeps is_id words = record {
-  count = length_push rests id ∙ ap (λ n. n + 1) h.count;
-  each = λ value x at. elim (last_or_before rests id x value at) [
-    | inl before ↦ takes_later old mid now layer place (name_of values value) others x keeps (h.each value x before)
-    | inr last ↦ subst (TakesName old now layer place (name_of values value) others) (sym last.1) (subst (λ n. TakesName old now layer place n others id) (sym (ap (name_of values) (last.0 ∙ h.count) ∙ named)) here)
-  ];
-  keeps = keeps_then old mid now h.keeps keeps;
-}
-  where
-    here : TakesName old now layer place (Some name) others id
-    here = record {
-      is_id = is_id;
-      words = λ word. words word ∙ ap (λ d. is_word (drop layer d) word && same_name (Some name) (name_at others word place)) h.keeps.domains;
-    }
-
-pub rests_at : (old now : Store) (layer place : ℕ) (values others : List Value) (done : ℕ) (rests : List Id) → Rests old now layer place values others done rests → All (IsIdAt now layer) rests
-rests_at old now layer place values others done rests h k d lt = (h.each k (get_or rests k d) (slice_get-get_or rests k d lt)).is_id
+rests_more old mid now layer place values others done rests id name h named keeps is_id words =
+    branches_more old mid now layer (λ value word. same_name (name_of values value) (name_at others word place)) done rests id h keeps is_id
+    (λ word. words word ∙ ap (λ n. is_word (drop layer (domains_of mid)) word && same_name n (name_at others word place)) (sym named))
 
 -- words of a layer that go on in such sets take values of one name there and at the other variable
 pub same_from : (old mid : Store) (first distance : ℕ) (values others : List Value) (rests : List Id) (word : List ℕ) → first < length (domains_of old) → length values ≡ get_or (domains_of old) first 0 → Rests old mid (first + 1) distance values others (length values) rests →
     leads mid rests word ≡ (is_word (drop first (domains_of old)) word && same_name (name_at values word 0) (name_at others word (suc distance)))
 same_from old mid first distance values others rests [] lt width h =
     sym (ap (λ l. is_word l [] && same_name (name_at values [] 0) (name_at others [] (suc distance))) (drop_more (domains_of old) first 0 lt))
-same_from old mid first distance values others rests (value ∷ word) lt width h = by (nat_lt value count) refl ∙ ap (λ l. is_word l (value ∷ word) && same) (sym (drop_more (domains_of old) first 0 lt))
-  where
-    count : ℕ
-    count = get_or (domains_of old) first 0
-
-    same : Bool
-    same = same_name (name_of values value) (name_at others word distance)
-
-    by : (b : Bool) → nat_lt value count ≡ b → has_in mid (slice_get rests value) word ≡ ((nat_lt value count && is_word (drop (first + 1) (domains_of old)) word) && same)
-    by true e =
-        let below : value < length rests = (let l = ltb-true value count e in let c = h.count in omega arith) in
-        let none : Id = record { layer = 0; node = 0 } in
-        let at : slice_get rests value ≡ Some (get_or rests value none) = slice_get-get_or rests value none below in
-        ap (λ o. has_in mid o word) at ∙ (h.each value (get_or rests value none) at).words word ∙ ap (λ b. (b && is_word (drop (first + 1) (domains_of old)) word) && same) (sym e)
-    by false e =
-        let past : length rests ≤ value = (let l = ltb-false value count e in let c = h.count in omega arith) in
-        ap (λ o. has_in mid o word) (slice_get_past rests value past) ∙ ap (λ b. (b && is_word (drop (first + 1) (domains_of old)) word) && same) (sym e)
+same_from old mid first distance values others rests (value ∷ word) lt width h =
+    branch_has old mid (first + 1) (λ v w. same_name (name_of values v) (name_at others w distance)) (length values) rests h value word
+    ∙ ap (λ n. (nat_lt value n && is_word (drop (first + 1) (domains_of old)) word) && same_name (name_of values value) (name_at others word distance)) width
+    ∙ ap (λ l. is_word l (value ∷ word) && same_name (name_of values value) (name_at others word distance)) (sym (drop_more (domains_of old) first 0 lt))
 
 -- and whole words that come to them
 pub same_words : (domains : List ℕ) (first second : ℕ) (values others : List Value) (word : List ℕ) → first < second →

@@ -1,5 +1,6 @@
 -- What the row of a table asks of each variable.
 use Rattle.std.specs.Prelude.{ℕ, nat_eq, Bool, true, false, ◌&&◌, List, [], ◌∷◌}
+use Rattle.std.specs.List.{list_any}
 use Rattle.pc_build.specs.declared.demand.Demand.{Demand}
 use Rattle.pc_build.specs.declared.demand.Demand.TheVariants.{Any, One, Never}
 
@@ -14,3 +15,12 @@ abbrev pub meets : List Demand → List ℕ → Bool
 meets [] word = true
 meets (demand ∷ demands) [] = false
 meets (demand ∷ demands) (value ∷ word) = allows demand value && meets demands word
+
+-- a row of demands allows a value of its first variable
+abbrev pub is_open : List Demand → ℕ → Bool
+is_open [] value = true
+is_open (demand ∷ demands) value = allows demand value
+
+-- a word meets one of several rows of demands
+abbrev pub some_meets : List (List Demand) → List ℕ → Bool
+some_meets rows word = list_any (λ row. meets row word) rows

@@ -7,10 +7,7 @@ ghost use Rattle.pc_store.specs.Sets.{domains_of, IsIdAt, has, Keeps};
 ghost use Rattle.pc_build.specs.Chains.{leads_on, Children};
 
 use pc_base::NoMemory;
-use pc_store::{Id, Store};
-
-/// The most values that a variable has.
-const MOST_VALUES: usize = 64;
+use pc_store::{Id, MOST_CHILDREN, Store};
 
 /// The layer after a variable.
 pub(crate) fn layer_after(store: &Store, variable: u32) -> u32
@@ -48,7 +45,7 @@ pub(crate) fn lengthen(store: &mut Store, layer: u32, below: Id) -> Result<Id, N
     ensures keeps { Keeps store.old store.new }
 {
     let count = store.domain(layer) as usize;
-    let children = [below; MOST_VALUES];
+    let children = [below; MOST_CHILDREN];
     store.node(layer, &children[..count])
 }
 
@@ -69,13 +66,13 @@ pub(crate) fn widen(store: &mut Store, from: u32, to: u32, below: Id) -> Result<
 }
 
 /// A child for each value: one set for the chosen ones, another for all others.
-fn children_of(chosen: &[u32], below: Id, other: Id) -> [Id; MOST_VALUES]
-    ensures { Children (λ value. list_any (nat_eq value) chosen.now) below other 64 result }
+fn children_of(chosen: &[u32], below: Id, other: Id) -> [Id; MOST_CHILDREN]
+    ensures { Children (λ value. list_any (nat_eq value) chosen.now) below other MOST_CHILDREN result }
 {
-    let mut children = [other; MOST_VALUES];
+    let mut children = [other; MOST_CHILDREN];
     for value in chosen {
         let place = *value as usize;
-        if place < MOST_VALUES {
+        if place < MOST_CHILDREN {
             children[place] = below;
         }
     }

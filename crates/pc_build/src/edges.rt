@@ -7,7 +7,8 @@ ghost use Rattle.pc_build.specs.Extracts.{AreEdges, Extracts};
 
 use indexmap::IndexSet;
 use pc_base::{NoMemory, Sequence};
-use pc_store::{Children, Node, Store};
+use pc_diagram::MOST_VARIABLES;
+use pc_store::{Children, Node, Store, number};
 use std::alloc::Global;
 
 /// The edges of the nodes of a layer, by node and then by value, and the nodes of the next layer that they lead to, in
@@ -62,7 +63,7 @@ pub(crate) fn edges_of(
     nodes: &[Node],
 ) -> Result<Edges, NoMemory>
     requires inner { layer < length (domains_of store.now) }
-    requires few { layer < 64 }
+    requires few { layer < MOST_VARIABLES }
     requires nodes { All (IsNodeAt store.now layer) nodes.now }
     ensures { IfOk result (λ found. Extracts store.now layer nodes.now found.nodes.keys found.edges) }
 {
@@ -75,11 +76,4 @@ pub(crate) fn edges_of(
         found.add_all(store, layer + 1, &children, store.domain(layer))?;
     }
     Ok(found)
-}
-
-/// A place as a number of 32 bits.
-pub(crate) fn number(place: usize) -> Result<u32, NoMemory>
-    ensures { IfOk result (λ n. n ≡ place) }
-{
-    u32::try_from(place).map_err(|_| NoMemory)
 }

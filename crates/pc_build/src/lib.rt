@@ -21,6 +21,7 @@ mod rules;
 mod same;
 mod table;
 mod tables;
+mod trie;
 mod version;
 
 pub use compiler::compile;

@@ -5,11 +5,13 @@ ghost use Rattle.std.specs.List.{list_any};
 ghost use Rattle.pc_diagram.specs.Words.{is_word};
 ghost use Rattle.pc_store.specs.Sets.{domains_of, IsIdAt, has, Keeps};
 ghost use Rattle.pc_file.specs.Rule.{row_fits};
+ghost use Rattle.pc_build.specs.Demands.{some_meets};
 
-use crate::demand::{demands_of, meeting};
-use pc_apply::or;
+use crate::demand::{Demand, demands_of};
+use crate::trie::meeting_some;
 use pc_base::{NoMemory, Sequence};
 use pc_store::{Id, Store};
+use std::alloc::Global;
 
 /// The words that take the values of some row at the table's variables, which may stand in any order. Want of memory
 /// leaves the store as it was but for more nodes.
@@ -23,25 +25,24 @@ pub(crate) fn rows_of_table(
     ensures set { IfOk result (λ id. (word : List ℕ) → has store.new id word ≡ (is_word (domains_of store.old) word && list_any (row_fits word variables.now) rows.now)) }
     ensures keeps { Keeps store.old store.new }
 {
-    match rows {
-        [] => Ok(store.empty(0)),
-        [row] => words_of_row(store, variables, row.as_slice()),
-        _ => {
-            let (first, second) = rows.split_at(rows.len() / 2);
-            let left = rows_of_table(store, variables, first)?;
-            let right = rows_of_table(store, variables, second)?;
-            or(store, left, right)
-        }
-    }
+    let demands = demands_of_rows(store.allocator(), store.variables(), variables, rows)?;
+    meeting_some(store, 0, demands.as_slice())
 }
 
-/// The words that take the values of a row at the table's variables.
-fn words_of_row(store: &mut Store, variables: &[u32], row: &[u32]) -> Result<Id, NoMemory>
-    requires { All (λ variable. variable < length (domains_of store.old)) variables.now }
-    ensures is_id { IfOk result (IsIdAt store.new 0) }
-    ensures set { IfOk result (λ id. (word : List ℕ) → has store.new id word ≡ (is_word (domains_of store.old) word && row_fits word variables.now row.now)) }
-    ensures keeps { Keeps store.old store.new }
+/// What each row asks of each of so many variables.
+fn demands_of_rows(
+    alloc: Global,
+    count: u32,
+    variables: &[u32],
+    rows: &[Sequence<u32>],
+) -> Result<Sequence<Sequence<Demand>>, NoMemory>
+    requires { All (λ variable. variable < count) variables.now }
+    ensures { IfOk result (λ demands. (word : List ℕ) → length word ≡ count
+        → some_meets demands word ≡ list_any (row_fits word variables.now) rows.now) }
 {
-    let demands = demands_of(store.allocator(), store.variables(), variables, row)?;
-    meeting(store, demands.as_slice())
+    let mut demands = Sequence::with_capacity(alloc, rows.len())?;
+    for row in rows {
+        demands.push(demands_of(alloc, count, variables, row.as_slice())?)?;
+    }
+    Ok(demands)
 }

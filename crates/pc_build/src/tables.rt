@@ -6,11 +6,11 @@ ghost use Rattle.pc_diagram.specs.Paths.{has_word};
 ghost use Rattle.pc_diagram.specs.Rests.{size};
 ghost use Rattle.pc_store.specs.Sets.{domains_of, IsIdAt, has};
 
-use crate::edges::{Edges, edges_of, number};
+use crate::edges::{Edges, edges_of};
 use indexmap::IndexSet;
 use pc_base::{NoMemory, Sequence};
 use pc_diagram::{MOST_NODES, RawDiagram};
-use pc_store::{Id, Store};
+use pc_store::{Id, Store, number};
 
 /// The tables of the diagram of a set that has a word. Each layer has the nodes that the words of the set lead to, in
 /// the order in which they are first met, so its tables are those of the canonical diagram.

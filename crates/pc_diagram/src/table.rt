@@ -43,7 +43,10 @@ impl Table {
     pub(crate) fn edge_count(&self) -> usize
         ensures { result ≡ count_by is_some self.now }
     {
-        self.numbers.iter().filter(|number| **number != NO_EDGE).count()
+        self.numbers
+            .iter()
+            .filter(|number| **number != NO_EDGE)
+            .count()
     }
 
     /// The edge at a place.

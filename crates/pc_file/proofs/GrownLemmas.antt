@@ -14,6 +14,6 @@ grown_on old piece mid new is grown =
     let short : length old ≤ length mid = omega (arith, ap length is, length-append old piece) in
     record {
       kept =
-      sym (take-take (length old) (length mid) new short)
-      ∙ ap (take (length old)) (grown.kept ∙ is) ∙ take-append_seam old piece;
+          sym (take-take (length old) (length mid) new short)
+          ∙ ap (take (length old)) (grown.kept ∙ is) ∙ take-append_seam old piece;
     }

@@ -175,7 +175,10 @@ fn is_chain(variables: &[Variable], rules: &[Rule]) -> bool
 fn is_at_most(variables: &[Variable], most: u32, rules: &[Rule]) -> bool
     ensures { result ≡ (nat_le most MOST_MEMBERS && nat_le 1 (length rules.now) && nat_le (length rules.now) MOST_MEMBERS && list_all (is_spelled variables.now) rules.now) }
 {
-    most as usize <= MOST_MEMBERS && rules.len() >= 1 && rules.len() <= MOST_MEMBERS && all_spelled(variables, rules)
+    most as usize <= MOST_MEMBERS
+        && rules.len() >= 1
+        && rules.len() <= MOST_MEMBERS
+        && all_spelled(variables, rules)
 }
 
 #[cycle(spelling)]

@@ -13,7 +13,8 @@ use pc_base::{NoMemory, Sequence};
 use pc_diagram::{Bounds, Choices, CostPair, Costs, Listing, Word, listing};
 use std::alloc::{AllocError, Global};
 
-/// The valid values under choices and bounds, each with its cheapest product, by trying every word.
+/// The valid values under choices and bounds, each with its cheapest product, by trying every word. No command calls it:
+/// faster ways are judged by it.
 pub fn plain_listing(
     alloc: Global,
     file: &File,

@@ -2,6 +2,7 @@
 use Rattle.std.specs.Prelude.{◌≡◌, ℕ, zero, suc, ◌<◌, ◌≤◌, ◌==◌, nat_eq, List, [], ◌∷◌, Bool, false, Some, length, replicate, slice_get, slice_index, slice_index_or, All}
 use Rattle.std.specs.Cmp.Lexicographic.{pointwise}
 use Rattle.std.specs.List.{IsDistinct}
+use Rattle.pc_diagram.specs.declared.limits.TheConstants.{MOST_VALUES, MOST_VARIABLES}
 use Rattle.pc_store.specs.Rows.{with_row}
 use Rattle.pc_store.specs.declared.layer.Layer.{Layer}
 
@@ -30,7 +31,7 @@ pub record IsRow (domain below : ℕ) (row : List ℕ) : Type 0 where
 -- same children
 pub record IsLayer (below : ℕ) (layer : Layer) : Type 0 where
   pub some_value : 0 < layer.domain
-  pub few_values : layer.domain ≤ 64
+  pub few_values : layer.domain ≤ MOST_VALUES
   pub empty : slice_get layer.table 0 ≡ Some (replicate layer.domain 0)
   pub full : slice_get layer.table 1 ≡ Some (replicate layer.domain 1)
   pub rows : All (IsRow layer.domain below) layer.table
@@ -44,7 +45,7 @@ IsLayered (layer ∷ layers) = IsLayer (node_count layers) layer × IsLayered la
 -- the layers of a store
 pub record IsStore (layers : List Layer) : Type 0 where
   pub some_layer : 0 < length layers
-  pub few_layers : length layers ≤ 64
+  pub few_layers : length layers ≤ MOST_VARIABLES
   pub layered : IsLayered layers
 
 -- a new layer: the node without words and the node with all, whatever stands below
@@ -54,7 +55,7 @@ new_layer domain = record { domain = domain; table = replicate domain 0 ∷ repl
 -- a number of values that a variable may have
 pub record IsDomain (domain : ℕ) : Type 0 where
   pub some_value : 0 < domain
-  pub few_values : domain ≤ 64
+  pub few_values : domain ≤ MOST_VALUES
 
 -- a row is one of this layer
 abbrev pub RowFits : List Layer → ℕ → List ℕ → Type 0

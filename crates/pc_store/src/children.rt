@@ -3,7 +3,11 @@
 ghost use Rattle.std.specs.Prelude.{◌≡◌, ◌<◌, Some, length, map, slice_get};
 
 use crate::id::Node;
+use pc_diagram::MOST_VALUES;
 use std::marker::Model;
+
+/// The most children of a node: one for each value of its variable.
+pub const MOST_CHILDREN: usize = MOST_VALUES as usize;
 
 /// What the words of a set go on with: for each value of its layer's variable, in order, a set of the next layer.
 #[derive(Debug, Drop)]

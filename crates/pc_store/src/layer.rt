@@ -3,13 +3,11 @@
 ghost use Rattle.std.specs.Prelude.{◌≡◌, ◌<◌, ℕ, length, slice_get, slice_index, slice_index_or, take, replicate, map, All, Some, IfOk, OnOk, OnErr};
 ghost use Rattle.pc_store.specs.Layered.{IsDomain, HasRow, new_layer, with_row_at};
 
+use crate::children::MOST_CHILDREN;
 use crate::table::{Row, Table};
 use pc_base::NoMemory;
 use smallvec::SmallVec;
 use std::alloc::Global;
-
-/// The most values that a variable has.
-const MOST_VALUES: usize = 64;
 
 /// The nodes of one variable, which takes so many values.
 #[derive(Debug, Drop)]
@@ -25,9 +23,9 @@ impl Layer {
         ensures { IfOk result (λ layer. layer ≡ new_layer domain) }
     {
         let mut table = Table::new(alloc);
-        let empty = SmallVec::from_slice(alloc, &[0; MOST_VALUES][..domain as usize])?;
+        let empty = SmallVec::from_slice(alloc, &[0; MOST_CHILDREN][..domain as usize])?;
         table.intern(&empty)?;
-        let full = SmallVec::from_slice(alloc, &[1; MOST_VALUES][..domain as usize])?;
+        let full = SmallVec::from_slice(alloc, &[1; MOST_CHILDREN][..domain as usize])?;
         table.intern(&full)?;
         Ok(Layer { domain, table })
     }

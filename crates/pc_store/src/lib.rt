@@ -7,10 +7,12 @@ mod children;
 mod id;
 pub mod laws;
 mod layer;
+mod places;
 mod size;
 mod store;
 mod table;
 
-pub use children::Children;
+pub use children::{Children, MOST_CHILDREN};
 pub use id::{Id, Node};
+pub use places::number;
 pub use store::Store;

@@ -10,6 +10,7 @@ use crate::layer::{Layer, intern_at, new_layers};
 use crate::size::{EMPTY, size_of};
 use crate::table::Row;
 use pc_base::NoMemory;
+use pc_diagram::MOST_VARIABLES;
 use smallvec::SmallVec;
 use std::alloc::Global;
 use std::marker::Model;
@@ -49,7 +50,7 @@ impl Store {
     /// A store over variables that take so many values, from 1 to 64, in order.
     pub fn new(alloc: Global, domains: &[u32]) -> Result<Store, NoMemory>
         requires some { 0 < length domains.now }
-        requires few { length domains.now ≤ 64 }
+        requires few { length domains.now ≤ MOST_VARIABLES }
         requires sizes { All IsDomain domains.now }
         ensures { IfOk result (λ store. domains_of store ≡ domains.now) }
     {
@@ -68,7 +69,7 @@ impl Store {
     pub fn variables(&self) -> u32
         ensures count { result ≡ length (domains_of self.now) }
         ensures some { 0 < result }
-        ensures few { result ≤ 64 }
+        ensures few { result ≤ MOST_VARIABLES }
     {
         self.layers.len() as u32
     }

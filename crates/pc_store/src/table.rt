@@ -5,6 +5,7 @@ ghost use Rattle.std.specs.Cmp.Lexicographic.{pointwise};
 ghost use Rattle.std.specs.List.{list_any};
 ghost use Rattle.pc_store.specs.Rows.{with_row};
 
+use crate::places::number;
 use indexmap::IndexSet;
 use pc_base::NoMemory;
 use smallvec::SmallVec;
@@ -150,11 +151,4 @@ fn put_any(rows: &mut IndexSet<Row>, row: &Row) -> Result<u32, NoMemory>
     let copy = SmallVec::from_slice(alloc, row.as_slice())?;
     let (place, _) = rows.insert_full(copy)?;
     Ok(place as u32)
-}
-
-/// A place as a number of 32 bits.
-fn number(place: usize) -> Result<u32, NoMemory>
-    ensures { IfOk result (λ n. n ≡ place) }
-{
-    u32::try_from(place).map_err(|_| NoMemory)
 }

@@ -6,8 +6,8 @@ pub mod Given
 pub mod Keyword
 pub mod Named
 pub mod Orders
+pub mod Draft
 pub mod Variables
-pub mod Reader
 pub mod Spells
 pub mod Statement
 pub mod Told

@@ -5,11 +5,11 @@
 
 mod arguments;
 mod crowding;
+mod draft;
 mod keyword;
 pub mod laws;
 mod limits;
 mod line_words;
-mod reader;
 mod reading;
 mod statement_fault;
 mod text;

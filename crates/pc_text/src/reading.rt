@@ -3,12 +3,12 @@
 ghost use Rattle.std.specs.Prelude.{◌≡◌, if◌then◌else◌, Some, None};
 ghost use Rattle.pc_text.specs.Crowded.{crowded_line, is_crowded, or_first};
 ghost use Rattle.pc_text.specs.FirstFault.{end_fault, first_fault, give_line, given_by, is_large, line_fault};
-ghost use Rattle.pc_text.specs.Reader.{given_of};
-ghost use Rattle.pc_text.specs.Told.{AnswersAt, ReadsText};
+ghost use Rattle.pc_text.specs.Draft.{given_of};
+ghost use Rattle.pc_text.specs.Told.{TellsAt, ReadsText};
 
+use crate::draft::Draft;
 use crate::keyword::Keyword;
 use crate::limits::{LINE_BYTES, LINES, TEXT_BYTES};
-use crate::reader::Reader;
 use crate::statement_fault::StatementFault;
 use crate::text_fault::TextFault;
 use pc_base::cut_line;
@@ -19,15 +19,15 @@ use std::alloc::Global;
 /// far multiply to more than `MOST_WORDS`.
 #[derive(Debug, Drop)]
 pub struct Statements {
-    pub reader: Reader,
+    pub draft: Draft,
     pub crowded: Option<u64>,
 }
 
 /// What all lines of a text give, or the first fault.
 pub fn read_statements(alloc: Global, text: &[u8]) -> Result<Statements, TextFault>
-    ensures { ReadsText (λ statements. (given_of statements.reader ≡ given_by text.now) × (statements.crowded ≡ crowded_line text.now)) result (first_fault text.now) }
+    ensures { ReadsText (λ statements. (given_of statements.draft ≡ given_by text.now) × (statements.crowded ≡ crowded_line text.now)) result (first_fault text.now) }
 {
-    let mut reader = Reader::new(alloc);
+    let mut draft = Draft::new(alloc);
     let mut rest = text;
     let mut number = 1;
     let mut crowded = None;
@@ -39,41 +39,36 @@ pub fn read_statements(alloc: Global, text: &[u8]) -> Result<Statements, TextFau
                 kind: Kind::Size,
             });
         }
-        match take_line(alloc, reader, number, line) {
-            Ok(next) => reader = next,
+        match take_line(alloc, draft, number, line) {
+            Ok(next) => draft = next,
             Err(fault) => return Err(fault),
         }
-        crowded = first_crowded(crowded, &reader, number);
+        crowded = first_crowded(crowded, &draft, number);
         rest = after;
         number += 1;
     }
-    match end_fault(reader.last()) {
+    match end_fault(draft.last()) {
         Some(kind) => Err(TextFault::At { line: number, kind }),
-        None => Ok(Statements { reader, crowded }),
+        None => Ok(Statements { draft, crowded }),
     }
 }
 
 /// The line that was crowded first, where this one is read.
-fn first_crowded(crowded: Option<u64>, reader: &Reader, number: u64) -> Option<u64>
-    ensures { result ≡ or_first crowded (if is_crowded (given_of reader.now) then Some number else None) }
+fn first_crowded(crowded: Option<u64>, draft: &Draft, number: u64) -> Option<u64>
+    ensures { result ≡ or_first crowded (if is_crowded (given_of draft.now) then Some number else None) }
 {
-    if crowded.is_none() && reader.is_crowded() {
+    if crowded.is_none() && draft.is_crowded() {
         return Some(number);
     }
     crowded
 }
 
 /// The next line, with its number, which a fault tells.
-fn take_line(
-    alloc: Global,
-    reader: Reader,
-    number: u64,
-    line: &[u8],
-) -> Result<Reader, TextFault>
-    ensures { AnswersAt number result (line_fault (given_of reader) line.now) (λ next. given_of next ≡ give_line (given_of reader) line.now) }
+fn take_line(alloc: Global, draft: Draft, number: u64, line: &[u8]) -> Result<Draft, TextFault>
+    ensures { TellsAt number result (line_fault (given_of draft) line.now) (λ next. given_of next ≡ give_line (given_of draft) line.now) }
 {
-    match reader.take_line(alloc, line) {
-        Ok(reader) => Ok(reader),
+    match draft.take_line(alloc, line) {
+        Ok(draft) => Ok(draft),
         Err(StatementFault::Fault(kind)) => Err(TextFault::At { line: number, kind }),
         Err(StatementFault::NoMemory) => Err(TextFault::NoMemory),
     }

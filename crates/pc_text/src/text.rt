@@ -20,7 +20,7 @@ pub fn read_file(alloc: Global, text: &[u8]) -> Result<File, TextFault>
     ensures only { (file : Contents) → Spells text.now file → GivesFile file result }
 {
     match read_statements(alloc, text) {
-        Ok(statements) => match statements.reader.into_file(alloc) {
+        Ok(statements) => match statements.draft.into_file(alloc) {
             Ok(file) => Ok(file),
             Err(FileFault::Limit) => unreachable!(),
             Err(FileFault::NoMemory) => Err(TextFault::NoMemory),

@@ -6,7 +6,7 @@ ghost use Rattle.pc_file.specs.Limits.{variable_names, value_names};
 ghost use Rattle.pc_file.specs.Products.{value_counts, word_count};
 ghost use Rattle.pc_text.specs.Given.{catalogue_of, with_value};
 ghost use Rattle.pc_text.specs.Orders.{first_standing, values_in};
-ghost use Rattle.pc_text.specs.Told.{Answers};
+ghost use Rattle.pc_text.specs.Told.{Tells};
 ghost use Rattle.pc_text.specs.Variables.{all_of, begun, begin_faults, closed_all, value_faults, with_open_value};
 
 use crate::statement_fault::StatementFault;
@@ -55,7 +55,7 @@ impl OpenVariable {
 
     /// The variable with one value more, at the end.
     fn with(self, value: Value) -> Result<OpenVariable, StatementFault>
-        ensures { Answers result (first_standing (value_faults (value_names self) value.name)) (λ variable. variable ≡ with_value value self) }
+        ensures { Tells result (first_standing (value_faults (value_names self) value.name)) (λ variable. variable ≡ with_value value self) }
     {
         let OpenVariable {
             name,
@@ -162,10 +162,12 @@ impl Variables {
 
     /// The same with one more variable, whose values are still to come.
     pub fn begin(self, alloc: Global, name: Name) -> Result<Variables, StatementFault>
-        ensures { Answers result (first_standing (begin_faults (all_of self) name)) (λ variables. variables ≡ begun self name) }
+        ensures { Tells result (first_standing (begin_faults (all_of self) name)) (λ variables. variables ≡ begun self name) }
     {
         let Variables {
-            closed, mut names, ..
+            closed,
+            mut names,
+            ..
         } = self.close()?;
         if closed.len() >= MOST_VARIABLES {
             return Err(StatementFault::Fault(Kind::Size));
@@ -182,7 +184,7 @@ impl Variables {
 
     /// The same with one more value of the open variable, if there is one.
     pub fn with_value(self, value: Value) -> Result<Variables, StatementFault>
-        ensures { Answers result (first_standing (value_faults (values_in self.open_variable) value.name)) (λ variables. variables ≡ with_open_value value self) }
+        ensures { Tells result (first_standing (value_faults (values_in self.open_variable) value.name)) (λ variables. variables ≡ with_open_value value self) }
     {
         let Variables {
             closed,

@@ -16,7 +16,8 @@ use pc_names::Name;
 use pc_rules::push_rule;
 use std::alloc::Global;
 
-/// The printed form of a file: its statements in order, each a line of words parted by one space.
+/// The printed form of a file: its statements in order, each a line of words parted by one space. No command prints one
+/// yet.
 #[tactic(auto, using(crate::proofs::PrintedSpells::written_spells))]
 pub fn write_file(alloc: Global, file: &File) -> Result<Text, NoMemory>
     ensures exact { IfOk result (λ text. text ≡ printed file.now) }

@@ -20,7 +20,11 @@ pub fn tell_operations(rt: &HostRuntime) -> Result<()> {
     let one = at_most(&mut store, 1, &[begin, end])?;
     println!(rt; "begin {} end {}", store.size(begin)?, store.size(end)?)?;
     println!(rt; "and {} or {}", store.size(both)?, store.size(either)?)?;
-    println!(rt; "not {} at most one {}", store.size(other)?, store.size(one)?)?;
+    println!(rt;
+        "not {} at most one {}",
+        store.size(other)?,
+        store.size(one)?
+    )?;
     let not_both = not(&mut store, both)?;
     println!(rt; "at most one is not both {}", store.same_set(one, not_both))?;
     let two = at_most(&mut store, 2, &[begin, end])?;

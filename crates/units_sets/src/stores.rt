@@ -12,17 +12,29 @@ pub fn tell_pairs(rt: &HostRuntime) -> Result<()> {
     let again = store.node(1, &last)?;
     println!(rt; "again {}", store.same_set(second, again))?;
     println!(rt; "sizes {} {}", store.size(both)?, store.size(again)?)?;
-    println!(rt; "empty {} full {}", store.size(store.empty(0))?, store.size(store.full(0))?)?;
+    println!(rt;
+        "empty {} full {}",
+        store.size(store.empty(0))?,
+        store.size(store.full(0))?
+    )?;
     println!(rt; "child {}", store.same_set(store.child(both, 1), second))?;
     let children = store.children(1, second.node());
-    println!(rt; "children {} {}", children.node(0) == last[0].node(), children.node(1) == last[0].node())?;
+    println!(rt;
+        "children {} {}",
+        children.node(0) == last[0].node(),
+        children.node(1) == last[0].node()
+    )?;
     Ok(())
 }
 
 /// Over a variable of one value and one of 64.
 pub fn tell_wide(rt: &HostRuntime) -> Result<()> {
     let mut store = Store::new(rt.alloc(), &[1, 64])?;
-    println!(rt; "variables {} domain {}", store.variables(), store.domain(1))?;
+    println!(rt;
+        "variables {} domain {}",
+        store.variables(),
+        store.domain(1)
+    )?;
     let end = store.full_end();
     let whole = store.node(1, &[end; 64])?;
     println!(rt; "whole {}", store.same_set(whole, store.full(1)))?;

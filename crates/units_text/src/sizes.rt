@@ -20,14 +20,54 @@ struct Size {
 }
 
 const SIZES: [Size; 8] = [
-    Size { rules: 1_024, empty: 0, comments: 0, last: 0 },
-    Size { rules: 1_025, empty: 0, comments: 0, last: 0 },
-    Size { rules: 0, empty: 8_187, comments: 0, last: 0 },
-    Size { rules: 0, empty: 8_188, comments: 0, last: 0 },
-    Size { rules: 0, empty: 0, comments: 0, last: 65_536 },
-    Size { rules: 0, empty: 0, comments: 0, last: 65_537 },
-    Size { rules: 0, empty: 0, comments: 15, last: 65_484 },
-    Size { rules: 0, empty: 0, comments: 15, last: 65_485 },
+    Size {
+        rules: 1_024,
+        empty: 0,
+        comments: 0,
+        last: 0,
+    },
+    Size {
+        rules: 1_025,
+        empty: 0,
+        comments: 0,
+        last: 0,
+    },
+    Size {
+        rules: 0,
+        empty: 8_187,
+        comments: 0,
+        last: 0,
+    },
+    Size {
+        rules: 0,
+        empty: 8_188,
+        comments: 0,
+        last: 0,
+    },
+    Size {
+        rules: 0,
+        empty: 0,
+        comments: 0,
+        last: 65_536,
+    },
+    Size {
+        rules: 0,
+        empty: 0,
+        comments: 0,
+        last: 65_537,
+    },
+    Size {
+        rules: 0,
+        empty: 0,
+        comments: 15,
+        last: 65_484,
+    },
+    Size {
+        rules: 0,
+        empty: 0,
+        comments: 15,
+        last: 65_485,
+    },
 ];
 
 /// Prints the first fault of each text.

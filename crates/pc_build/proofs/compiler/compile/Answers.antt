@@ -1,6 +1,5 @@
-use Rattle.std.proofs.Common.{◌≡◌, ◌∙◌, subst, ap}
+use Rattle.std.proofs.Common.{◌∙◌, subst, ap}
 use Rattle.std.proofs.lemmas.Result.{err_from_is_err_and}
-use Rattle.pc_diagram.specs.Paths.{words}
 use Rattle.pc_file.specs.Contents.{Contents}
 use Rattle.pc_file.specs.Full.{full_domains, full}
 use Rattle.pc_build.specs.Building.{IsBuildFault}

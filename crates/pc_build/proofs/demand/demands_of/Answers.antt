@@ -4,7 +4,7 @@ use Rattle.std.proofs.lemmas.List.{length_push}
 use Rattle.std.proofs.lemmas.Slice.Zip.{zip_turn, zip_end}
 use Rattle.pc_file.proofs.ZipLemmas.{zip_all}
 use Rattle.pc_build.specs.declared.demand.Demand.{Demand}
-use Rattle.pc_build.specs.Demands.{allows}
+use Rattle.pc_build.specs.Demands.{allows, meets}
 use Rattle.pc_build.proofs.DemandLemmas.{Asked, asked_none, asked_more, pairs_more, takes_each}
 use Rattle.pc_build.proofs.demand.demands_of.Goals as goal
 
@@ -33,4 +33,4 @@ returns-clause-words c =
     let variables = c.args.variables.now in
     let row = c.args.row.now in
     let end = zip_end variables row c.loop-variable.yielded c.into_iter-variable-iterator.result c.loop-variable.variable-iterator c.next.new.self c.next.result (cc) (cc) c.loop-variable.yielded_by c.in-None.is c.next.ensures.steps in
-    λ word e. c.loop-variable.invariant.words word e ∙ ap (takes_each word) (zip_all variables row (length c.loop-variable.yielded) end)
+    λ word e. ap (λ (demands : List Demand). meets demands word) c.from_vec.ensures ∙ c.loop-variable.invariant.words word e ∙ ap (takes_each word) (zip_all variables row (length c.loop-variable.yielded) end)

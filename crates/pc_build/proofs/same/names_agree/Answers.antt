@@ -8,7 +8,8 @@ use Rattle.pc_apply.proofs.ProductLemmas.{ok_then}
 use Rattle.pc_file.specs.declared.variable.Value.{Value}
 use Rattle.pc_file.specs.Rule.{same_name}
 use Rattle.pc_build.specs.Named.{name_of, name_at}
-use Rattle.pc_build.proofs.SameLemmas.{Rests, rests_more, rests_at, same_from, same_words}
+use Rattle.pc_build.proofs.BranchLemmas.{branches_at}
+use Rattle.pc_build.proofs.SameLemmas.{Rests, rests_more, same_from, same_words}
 use Rattle.pc_build.proofs.same.names_agree.Goals as goal
 
 pub loop-value-preserved : goal.loop-value-preserved
@@ -34,7 +35,7 @@ pub node-requires-clause-below : goal.node-requires-clause-below
 node-requires-clause-below c =
     let layer = c.args.first + 1 in
     subst (All (IsIdAt c.loop-value.store layer)) (sym c.as_slice.ensures.value)
-    (rests_at c.args.store.now c.loop-value.store layer (c.args.second - layer) c.args.values.now c.args.others.now c.loop-value.value-index c.loop-value.rests.items c.loop-value.invariant)
+    (branches_at c.args.store.now c.loop-value.store layer (λ value word. same_name (name_of c.args.values.now value) (name_at c.args.others.now word (c.args.second - layer))) c.loop-value.value-index c.loop-value.rests.items c.loop-value.invariant)
 
 pub returns-clause-set : goal.returns-clause-set
 returns-clause-set c =

@@ -6,10 +6,10 @@ use Rattle.pc_rules.specs.declared.kind.Kind.{Kind}
 use Rattle.pc_text.specs.declared.text_fault.TextFault.{TextFault}
 use Rattle.pc_text.specs.declared.text_fault.TextFault.TheVariants.{At, NoMemory}
 use Rattle.pc_text.specs.declared.reading.Statements.{Statements}
-use Rattle.pc_text.specs.Told.{AnswersAt, ReadsText}
+use Rattle.pc_text.specs.Told.{TellsAt, ReadsText}
 use Rattle.pc_text.specs.FirstFault.{is_large, end_fault, at, first_fault, given_by, give_line, line_fault}
-use Rattle.pc_text.specs.declared.reader.Reader.{Reader}
-use Rattle.pc_text.specs.Reader.{given_of}
+use Rattle.pc_text.specs.declared.draft.Draft.{Draft}
+use Rattle.pc_text.specs.Draft.{given_of}
 use Rattle.pc_text.specs.Crowded.{crowded_line}
 use Rattle.pc_text.proofs.CrowdLemmas.{crowded_more, crowded_all}
 use Rattle.pc_text.proofs.FaultLemmas.{given_step, fault_end, given_end, less_after, stops_large, stops_faulty, goes_on}
@@ -26,11 +26,11 @@ returns-then-is_large c =
     let rest = c.loop-rest.rest.now in
     let some : 0 < length rest = grind (arith, c.is_empty.ensures, c.loop-rest-test.true) in
     let i = c.loop-rest.invariant in
-    stops_large (given_of c.loop-rest.reader) c.loop-rest.number c.args.text.now rest c.cut_line.result.0.now c.cut_line.result.1.now some i.within c.cut_line.ensures.line c.cut_line.ensures.after i.fault
+    stops_large (given_of c.loop-rest.draft) c.loop-rest.number c.args.text.now rest c.cut_line.result.0.now c.cut_line.result.1.now some i.within c.cut_line.ensures.line c.cut_line.ensures.after i.fault
     (sym c.is_large.ensures ∙ c.if-is_large.true)
 
 told : {X Y : Type 0} (P : X → Type 0) (fault : TextFault) (number : ℕ) (found : Option Kind) (Q : Y → Type 0) (first : Option (ℕ × Kind)) → ((kind : Kind) → found ≡ Some kind → first ≡ Some (number, kind)) →
-    AnswersAt number (Err fault) found Q → ReadsText P (Err fault) first
+    TellsAt number (Err fault) found Q → ReadsText P (Err fault) first
 told P (At line kind) number found Q first tells answer = tells kind answer.1 ∙ ap (λ n. Some (n, kind)) (sym answer.0)
 told P NoMemory number found Q first tells answer = tt
 
@@ -39,11 +39,11 @@ returns-in-Err c =
     let rest = c.loop-rest.rest.now in
     let text = c.args.text.now in
     let line = c.cut_line.result.0.now in
-    let given = given_of c.loop-rest.reader in
+    let given = given_of c.loop-rest.draft in
     let some : 0 < length rest = grind (arith, c.is_empty.ensures, c.loop-rest-test.true) in
     let i = c.loop-rest.invariant in
     let small : is_large c.loop-rest.number (length text - length c.cut_line.result.1.now) line ≡ false = sym c.is_large.ensures ∙ c.if-is_large.false in
-    told (λ (statements : Statements). (given_of statements.reader ≡ given_by text) × (statements.crowded ≡ crowded_line text)) c.in-Err.fault c.loop-rest.number (line_fault given line) (λ (next : Reader). given_of next ≡ give_line given line) (first_fault text)
+    told (λ (statements : Statements). (given_of statements.draft ≡ given_by text) × (statements.crowded ≡ crowded_line text)) c.in-Err.fault c.loop-rest.number (line_fault given line) (λ (next : Draft). given_of next ≡ give_line given line) (first_fault text)
     (λ kind. stops_faulty given c.loop-rest.number text rest line c.cut_line.result.1.now some i.within c.cut_line.ensures.line c.cut_line.ensures.after i.fault kind small)
     c.in-Err.ensures
 
@@ -65,7 +65,7 @@ loop-rest-preserved c =
     let text = c.args.text.now in
     let line = c.cut_line.result.0.now in
     let after = c.cut_line.result.1.now in
-    let given = given_of c.loop-rest.reader in
+    let given = given_of c.loop-rest.draft in
     let number = c.loop-rest.number in
     let some : 0 < length rest = grind (arith, c.is_empty.ensures, c.loop-rest-test.true) in
     let i = c.loop-rest.invariant in
@@ -86,7 +86,7 @@ returns-in-Some c =
     let rest = c.loop-rest.rest.now in
     let text = c.args.text.now in
     let empty : rest ≡ [] = nil_from_length rest (grind (arith, c.is_empty.ensures, c.loop-rest-test.false)) in
-    let given = given_of c.loop-rest.reader in
+    let given = given_of c.loop-rest.draft in
     sym i.fault ∙ fault_end given c.loop-rest.number (length text - length rest) (length text) rest empty ∙ ap (λ last. at c.loop-rest.number (end_fault last)) (sym c.last.ensures)
     ∙ ap (at c.loop-rest.number) (sym c.in-Some.ensures)
 
@@ -96,7 +96,7 @@ returns-in-None c =
     let rest = c.loop-rest.rest.now in
     let text = c.args.text.now in
     let empty : rest ≡ [] = nil_from_length rest (grind (arith, c.is_empty.ensures, c.loop-rest-test.false)) in
-    let given = given_of c.loop-rest.reader in
+    let given = given_of c.loop-rest.draft in
     let held : given ≡ given_by text = sym (given_end given rest empty) ∙ i.given in
     let sound : first_fault text ≡ None =
     sym i.fault ∙ fault_end given c.loop-rest.number (length text - length rest) (length text) rest empty ∙ ap (λ last. at c.loop-rest.number (end_fault last)) (sym c.last.ensures)

@@ -19,11 +19,11 @@ use Rattle.pc_text.specs.declared.keyword.Keyword.{Keyword}
 use Rattle.pc_text.specs.declared.keyword.Keyword.TheVariants as keyword
 use Rattle.pc_text.specs.Given.{Given, catalogue_of, print_more, print_rule, rules_read, variables_given}
 use Rattle.pc_text.specs.Orders.{or_else, print_fault, rule_fault}
-use Rattle.pc_text.specs.declared.reader.Reader.{Reader}
+use Rattle.pc_text.specs.declared.draft.Draft.{Draft}
 use Rattle.pc_text.specs.GivenVariables.{GivenVariables}
-use Rattle.pc_text.specs.Reader.{given_of}
-use Rattle.pc_text.specs.Told.{Answers}
-use Rattle.pc_text.proofs.reader.Reader.take_rule.Goals as goal
+use Rattle.pc_text.specs.Draft.{given_of}
+use Rattle.pc_text.specs.Told.{Tells}
+use Rattle.pc_text.proofs.draft.Draft.take_rule.Goals as goal
 
 abbrev given_with : Option Keyword → List (List ℕ) → List Variable → Option Variable → List Rule → Option ℕ → Given
 given_with last costs closed open_variable rules printed = record { last = last; costs = costs; closed = closed; open_variable = open_variable; rules = rules; printed = printed }
@@ -62,5 +62,5 @@ returns c =
     (with_line old.printed size) (print_rule (Some old.printed) variables read) refl closed_is open_is rules_are told in
     let counted = given_with (Some keyword.Rule) old.costs now.closed now.open_variable c.push.new.self (with_line old.printed size) in
     let all = or_else (if nat_le MOST_RULES (length old.rules) then Some kind.Size else None) (or_else (rule_fault read) (print_fault (print_rule (Some old.printed) variables read))) in
-    subst (λ (g : Given). Answers c.print.result all (λ (reader : Reader). given_of reader ≡ g)) after
-    (subst (λ (f : Option Kind). Answers c.print.result f (λ (reader : Reader). given_of reader ≡ counted)) faults c.print.ensures)
+    subst (λ (g : Given). Tells c.print.result all (λ (draft : Draft). given_of draft ≡ g)) after
+    (subst (λ (f : Option Kind). Tells c.print.result f (λ (draft : Draft). given_of draft ≡ counted)) faults c.print.ensures)

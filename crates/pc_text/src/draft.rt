@@ -17,7 +17,7 @@ ghost use Rattle.pc_text.specs.Crowded.{is_crowded};
 ghost use Rattle.pc_names.specs.LineWords.{words};
 ghost use Rattle.pc_rules.specs.declared.kind.Kind.TheVariants.{Header};
 ghost use Rattle.pc_rules.specs.RuleText.{rule_of};
-ghost use Rattle.pc_text.specs.Told.{Answers};
+ghost use Rattle.pc_text.specs.Told.{Tells};
 ghost use Rattle.pc_text.specs.declared.keyword.Keyword.TheVariants as keyword;
 
 use crate::arguments::{argument, only_free_name, only_name, value_of};
@@ -37,7 +37,7 @@ use std::alloc::Global;
 
 /// What the statements so far give, and the bytes of their printed lines with the line feeds.
 #[derive(Debug, Drop)]
-pub struct Reader {
+pub struct Draft {
     last: Option<Keyword>,
     costs: Sequence<Name>,
     variables: Variables,
@@ -45,15 +45,15 @@ pub struct Reader {
     printed: usize,
 }
 
-impl Reader {
+impl Draft {
     ghost use Rattle.pc_text.specs.Given.{nothing_given};
-    ghost use Rattle.pc_text.specs.Reader.{given_of};
+    ghost use Rattle.pc_text.specs.Draft.{given_of};
 
     /// Before the first statement.
-    pub fn new(alloc: Global) -> Reader
+    pub fn new(alloc: Global) -> Draft
         ensures { given_of result ≡ nothing_given }
     {
-        Reader {
+        Draft {
             last: None,
             costs: Sequence::new(alloc),
             variables: Variables::new(alloc),
@@ -64,8 +64,8 @@ impl Reader {
 
     /// What the statements give with the next line of the text.
     #[tactic(auto, unfolding(crate::specs::FirstFault::line_fault, crate::specs::FirstFault::give_line))]
-    pub fn take_line(self, alloc: Global, line: &[u8]) -> Result<Reader, StatementFault>
-        ensures { Answers result (line_fault (given_of self) line.now) (λ reader. given_of reader ≡ give_line (given_of self) line.now) }
+    pub fn take_line(self, alloc: Global, line: &[u8]) -> Result<Draft, StatementFault>
+        ensures { Tells result (line_fault (given_of self) line.now) (λ draft. given_of draft ≡ give_line (given_of self) line.now) }
     {
         let (word, text) = cut_word(line);
         if is_skipped(word) {
@@ -106,9 +106,9 @@ impl Reader {
         alloc: Global,
         word: Option<Keyword>,
         text: &[u8],
-    ) -> Result<Reader, StatementFault>
+    ) -> Result<Draft, StatementFault>
         ensures { let given = given_of self in let rule = rule_of (catalogue_of (variables_given given)) text.now in
-            Answers result (statement_fault given word (words text.now) rule) (λ reader. given_of reader ≡ give_statement given word (words text.now) rule) }
+            Tells result (statement_fault given word (words text.now) rule) (λ draft. given_of draft ≡ give_statement given word (words text.now) rule) }
     {
         match (self.last, word) {
             (None, Some(Keyword::Product)) => self.take_header(&words(alloc, text)?),
@@ -121,10 +121,10 @@ impl Reader {
     }
 
     /// A first line that begins with `product`.
-    fn take_header(mut self, arguments: &[&[u8]]) -> Result<Reader, StatementFault>
-        ensures { Answers result (or_else (first_standing ((not ((length (bytes arguments.now) == 1) && same_spelling (argument (bytes arguments.now) 0) (codes "1")), Header) ∷ []))
+    fn take_header(mut self, arguments: &[&[u8]]) -> Result<Draft, StatementFault>
+        ensures { Tells result (or_else (first_standing ((not ((length (bytes arguments.now) == 1) && same_spelling (argument (bytes arguments.now) 0) (codes "1")), Header) ∷ []))
             (print_fault (give (given_of self) (Some Keyword.Product) (bytes arguments.now)).printed))
-            (λ reader. given_of reader ≡ give (given_of self) (Some Keyword.Product) (bytes arguments.now)) }
+            (λ draft. given_of draft ≡ give (given_of self) (Some Keyword.Product) (bytes arguments.now)) }
     {
         if arguments.len() != 1 || argument(arguments, 0) != b"1".as_slice() {
             return Err(StatementFault::Fault(Kind::Header));
@@ -134,11 +134,16 @@ impl Reader {
     }
 
     /// A statement that may come here.
-    fn take_allowed(mut self, alloc: Global, word: Keyword, text: &[u8]) -> Result<Reader, StatementFault>
+    fn take_allowed(
+        mut self,
+        alloc: Global,
+        word: Keyword,
+        text: &[u8],
+    ) -> Result<Draft, StatementFault>
         ensures { let given = given_of self in let rule = rule_of (catalogue_of (variables_given given)) text.now in
-            Answers result (or_else (first_standing (orders_within given (Some word) (words text.now)))
+            Tells result (or_else (first_standing (orders_within given (Some word) (words text.now)))
             (or_else (fault_of_rule (Some word) rule) (print_fault (give_statement given (Some word) (words text.now) rule).printed)))
-            (λ reader. given_of reader ≡ give_statement given (Some word) (words text.now) rule) }
+            (λ draft. given_of draft ≡ give_statement given (Some word) (words text.now) rule) }
     {
         match word {
             Keyword::Product => {
@@ -154,10 +159,10 @@ impl Reader {
     }
 
     /// A line `cost NAME`.
-    fn take_cost(mut self, arguments: &[&[u8]]) -> Result<Reader, StatementFault>
-        ensures { Answers result (or_else (first_standing (orders_within (given_of self) (Some Keyword.Cost) (bytes arguments.now)))
+    fn take_cost(mut self, arguments: &[&[u8]]) -> Result<Draft, StatementFault>
+        ensures { Tells result (or_else (first_standing (orders_within (given_of self) (Some Keyword.Cost) (bytes arguments.now)))
             (print_fault (give (given_of self) (Some Keyword.Cost) (bytes arguments.now)).printed))
-            (λ reader. given_of reader ≡ give (given_of self) (Some Keyword.Cost) (bytes arguments.now)) }
+            (λ draft. given_of draft ≡ give (given_of self) (Some Keyword.Cost) (bytes arguments.now)) }
     {
         let name = only_name(arguments).ok_or(StatementFault::Fault(Kind::Cost))?;
         if self.costs.len() >= MOST_COSTS {
@@ -172,10 +177,10 @@ impl Reader {
     }
 
     /// A line `variable NAME`.
-    fn take_variable(mut self, alloc: Global, arguments: &[&[u8]]) -> Result<Reader, StatementFault>
-        ensures { Answers result (or_else (first_standing (orders_within (given_of self) (Some Keyword.Variable) (bytes arguments.now)))
+    fn take_variable(mut self, alloc: Global, arguments: &[&[u8]]) -> Result<Draft, StatementFault>
+        ensures { Tells result (or_else (first_standing (orders_within (given_of self) (Some Keyword.Variable) (bytes arguments.now)))
             (print_fault (give (given_of self) (Some Keyword.Variable) (bytes arguments.now)).printed))
-            (λ reader. given_of reader ≡ give (given_of self) (Some Keyword.Variable) (bytes arguments.now)) }
+            (λ draft. given_of draft ≡ give (given_of self) (Some Keyword.Variable) (bytes arguments.now)) }
     {
         let name = only_free_name(arguments).ok_or(StatementFault::Fault(Kind::Variable))?;
         self.variables = self.variables.begin(alloc, name)?;
@@ -184,10 +189,10 @@ impl Reader {
     }
 
     /// A line `value NAME NUMBER` or `value NAME NUMBER NUMBER`.
-    fn take_value(mut self, arguments: &[&[u8]]) -> Result<Reader, StatementFault>
-        ensures { Answers result (or_else (first_standing (orders_within (given_of self) (Some Keyword.Value) (bytes arguments.now)))
+    fn take_value(mut self, arguments: &[&[u8]]) -> Result<Draft, StatementFault>
+        ensures { Tells result (or_else (first_standing (orders_within (given_of self) (Some Keyword.Value) (bytes arguments.now)))
             (print_fault (give (given_of self) (Some Keyword.Value) (bytes arguments.now)).printed))
-            (λ reader. given_of reader ≡ give (given_of self) (Some Keyword.Value) (bytes arguments.now)) }
+            (λ draft. given_of draft ≡ give (given_of self) (Some Keyword.Value) (bytes arguments.now)) }
     {
         let value = value_of(arguments, self.costs.len())?;
         let size = value_line_size(self.costs.len(), &value);
@@ -197,10 +202,10 @@ impl Reader {
     }
 
     /// A line `end`.
-    fn take_end(mut self, arguments: &[&[u8]]) -> Result<Reader, StatementFault>
-        ensures { Answers result (or_else (first_standing (orders_within (given_of self) (Some Keyword.End) (bytes arguments.now)))
+    fn take_end(mut self, arguments: &[&[u8]]) -> Result<Draft, StatementFault>
+        ensures { Tells result (or_else (first_standing (orders_within (given_of self) (Some Keyword.End) (bytes arguments.now)))
             (print_fault (give (given_of self) (Some Keyword.End) (bytes arguments.now)).printed))
-            (λ reader. given_of reader ≡ give (given_of self) (Some Keyword.End) (bytes arguments.now)) }
+            (λ draft. given_of draft ≡ give (given_of self) (Some Keyword.End) (bytes arguments.now)) }
     {
         if !arguments.is_empty() {
             return Err(StatementFault::Fault(Kind::End));
@@ -211,11 +216,11 @@ impl Reader {
     }
 
     /// A line that begins with `rule`.
-    fn take_rule(mut self, alloc: Global, text: &[u8]) -> Result<Reader, StatementFault>
+    fn take_rule(mut self, alloc: Global, text: &[u8]) -> Result<Draft, StatementFault>
         ensures { let rule = rule_of (catalogue_of (variables_given (given_of self))) text.now in
-            Answers result (or_else (first_standing (orders_within (given_of self) (Some Keyword.Rule) []))
+            Tells result (or_else (first_standing (orders_within (given_of self) (Some Keyword.Rule) []))
             (or_else (rule_fault rule) (print_fault (give_rule (given_of self) rule).printed)))
-            (λ reader. given_of reader ≡ give_rule (given_of self) rule) }
+            (λ draft. given_of draft ≡ give_rule (given_of self) rule) }
     {
         if self.rules.len() >= MOST_RULES {
             return Err(StatementFault::Fault(Kind::Size));
@@ -229,8 +234,8 @@ impl Reader {
     }
 
     /// Counts the printed line of a statement, of so many bytes.
-    fn print(mut self, size: usize) -> Result<Reader, StatementFault>
-        ensures { Answers result (print_fault (with_line self.printed size)) (λ reader. given_of reader ≡ record (given_of self) { printed = with_line self.printed size }) }
+    fn print(mut self, size: usize) -> Result<Draft, StatementFault>
+        ensures { Tells result (print_fault (with_line self.printed size)) (λ draft. given_of draft ≡ record (given_of self) { printed = with_line self.printed size }) }
     {
         self.printed = with_line(self.printed, size).ok_or(StatementFault::Fault(Kind::Size))?;
         Ok(self)

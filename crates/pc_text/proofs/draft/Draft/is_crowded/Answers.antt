@@ -3,9 +3,9 @@ use Rattle.std.specs.Option.{option_to_list}
 use Rattle.pc_file.specs.Products.{value_counts, word_count}
 use Rattle.pc_text.specs.Given.{variables_given}
 use Rattle.pc_text.specs.Crowded.{words_before}
-use Rattle.pc_text.specs.Reader.{given_of}
+use Rattle.pc_text.specs.Draft.{given_of}
 use Rattle.pc_text.proofs.CrowdLemmas.{before, too_many, not_too_many}
-use Rattle.pc_text.proofs.reader.Reader.is_crowded.Goals as goal
+use Rattle.pc_text.proofs.draft.Draft.is_crowded.Goals as goal
 
 pub returns-in-Some : goal.returns-in-Some
 returns-in-Some c =
