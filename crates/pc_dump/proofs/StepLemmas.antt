@@ -16,10 +16,10 @@ use Rattle.pc_dump.proofs.WordLemmas.{edge_injective, map_injective, number_inje
 abbrev Table : Type 0
 Table = List (Option ℕ)
 
-cons_head : {X : Type 0} (x y : X) (xs ys : List X) → x ∷ xs ≡ y ∷ ys → x ≡ y
+pub cons_head : {X : Type 0} (x y : X) (xs ys : List X) → x ∷ xs ≡ y ∷ ys → x ≡ y
 cons_head x y xs ys e = cc
 
-cons_tail : {X : Type 0} (x y : X) (xs ys : List X) → x ∷ xs ≡ y ∷ ys → xs ≡ ys
+pub cons_tail : {X : Type 0} (x y : X) (xs ys : List X) → x ∷ xs ≡ y ∷ ys → xs ≡ ys
 cons_tail x y xs ys e = cc
 
 -- a draft that awaits this
@@ -112,7 +112,7 @@ record Opened (k d x : ℕ) (ds ss : List ℕ) (ts : List Table) (later : List W
   pub same_tables : ts ≡ table ∷ tables
   pub lines : later ≡ nodes d x table ++ layers (k + 1) ds sizes tables
 
-size_told : (k x s : ℕ) → layer_words k x ≡ layer_words k s → decimal x ≡ decimal s
+pub size_told : (k x s : ℕ) → layer_words k x ≡ layer_words k s → decimal x ≡ decimal s
 size_told k x s e =
     let tail = cons_tail (codes "layer") (codes "layer") (decimal k ∷ decimal x ∷ []) (decimal k ∷ decimal s ∷ []) e in
     let last = cons_tail (decimal k) (decimal k) (decimal x ∷ []) (decimal s ∷ []) tail in

@@ -5,6 +5,7 @@
 mod draft;
 mod dump;
 mod kinds;
+pub mod laws;
 mod line_words;
 mod numbers;
 mod reader;

@@ -1,6 +1,6 @@
 //! A diagram's text, read from a source.
 
-ghost use Rattle.std.specs.Prelude.{◌≡◌, ◌<◌, ◌≤◌, ◌^◌, false, None, Err, IfOk, IfSome};
+ghost use Rattle.std.specs.Prelude.{◌≡◌, ◌≢◌, ◌<◌, ◌≤◌, ◌^◌, false, None, Err, IfOk, IfSome};
 ghost use Rattle.pc_base.specs.Rose.{Rose};
 ghost use Rattle.pc_io.specs.NextLine.{is_from_outside};
 ghost use Rattle.pc_dump.specs.Reading.{IsReadOf, Reads};
@@ -27,6 +27,7 @@ pub fn read_dump<S: Source>(
     ensures exact { is_from_outside result ≡ false → IfSome (S.rest source.old) (IsReadOf line_limit total_limit result) }
     ensures failed { result ≡ Err LineFault.ReadFault → Rose (S.read_faults source.old) (S.read_faults source.new) }
 
+    ensures faultless { result ≢ Err LineFault.ReadFault → S.read_faults source.new ≡ S.read_faults source.old }
     ensures counted { S.read_faults source.old ≤ S.read_faults source.new }
     ensures aside { S.read_aside source.new ≡ S.read_aside source.old }
 {

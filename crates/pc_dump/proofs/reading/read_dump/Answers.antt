@@ -29,7 +29,7 @@ loop-reader-preserved g c =
     let so = c.loop-reader.invariant in
     let call = rw c.in-Some.is at c.in_ok-line.ensures in
     let takes = rw c.as_slice.ensures at c.in_ok-take.ensures in
-    lines_on _ _ c.in-Some.line c.loop-reader.reader c.take.new.self c.loop-reader.lines c.next.new.self _ _ _ _ _ _ _ _ _ _ so call.stream call.given call.line call.rises call.within call.limits call.last call.at_end call.told call.unread (call.calm (λ e. cc)) call.aside takes
+    lines_on _ _ c.in-Some.line c.loop-reader.reader c.take.new.self c.loop-reader.lines c.next.new.self _ _ _ _ _ _ _ _ _ _ so call.stream call.given call.line call.rises call.within call.limits call.last call.at_end call.told call.unread (call.faultless (λ e. cc)) call.aside takes
 
 pub returns-clause-read : goal.returns-clause-read
 returns-clause-read g c =
