@@ -78,14 +78,17 @@ answered status dump answer before after reads tells written =
     })
 
 pub cut_short : (status : Status) (dump : Dump) (answer : List ℕ) (before after : Ends) → Reads MOST_LINE_BYTES MOST_DUMP_BYTES dump before.rest after.rest → Tells dump status answer → Rose before.write_faults after.write_faults → GrewByPart answer before.written after.written → CheckLeaves WriteFault before after
-cut_short status dump answer before after reads tells rose part = (rose, record {
-  status = status;
-  text = reads.text;
-  answer = answer;
-  reads = record { read = reads.read; at_end = reads.at_end; within = reads.within };
-  means = means status dump answer before after reads tells;
-  part = part;
-})
+cut_short status dump answer before after reads tells rose part = (
+  rose,
+  record {
+    status = status;
+    text = reads.text;
+    answer = answer;
+    reads = record { read = reads.read; at_end = reads.at_end; within = reads.within };
+    means = means status dump answer before after reads tells;
+    part = part;
+  },
+)
 
 -- so the bytes call for the status
 
