@@ -11,11 +11,10 @@ use forms::tell_forms;
 use operations::tell_operations;
 use pc_base::crosses_threads;
 use pc_build::BuildFault;
-use pc_store::{Id, Store};
+use pc_store::Id;
 use stores::{tell_pairs, tell_wide};
 
 fn main(rt: HostRuntime) -> Result<()> {
-    crosses_threads::<Store>();
     crosses_threads::<Id>();
     crosses_threads::<BuildFault>();
     tell_pairs(&rt)?;

@@ -8,31 +8,48 @@ use pc_apply::{and, at_most, not, or};
 use pc_base::NoMemory;
 use pc_store::{Id, Store};
 
-/// Over two variables of two values: the sizes of the words that begin with the first value, of those that end with it,
-/// and of what the operations make of the two.
+/// What the operations make, over two variables of two values, of the words that begin with the first value and of those
+/// that end with it.
 pub fn tell_operations(rt: &HostRuntime) -> Result<()> {
+    tell_and(rt)?;
+    tell_or(rt)?;
+    tell_not(rt)?;
+    tell_at_most(rt, 1)?;
+    tell_at_most(rt, 2)
+}
+
+fn tell_and(rt: &HostRuntime) -> Result<()> {
     let mut store = Store::new(rt.alloc(), &[2, 2])?;
     let begin = begins(&mut store)?;
     let end = ends(&mut store)?;
     let both = and(&mut store, begin, end)?;
+    println!(rt; "and {}", store.size(both)?)?;
+    Ok(())
+}
+
+fn tell_or(rt: &HostRuntime) -> Result<()> {
+    let mut store = Store::new(rt.alloc(), &[2, 2])?;
+    let begin = begins(&mut store)?;
+    let end = ends(&mut store)?;
     let either = or(&mut store, begin, end)?;
+    println!(rt; "or {}", store.size(either)?)?;
+    Ok(())
+}
+
+fn tell_not(rt: &HostRuntime) -> Result<()> {
+    let mut store = Store::new(rt.alloc(), &[2, 2])?;
+    let begin = begins(&mut store)?;
     let other = not(&mut store, begin)?;
-    let one = at_most(&mut store, 1, &[begin, end])?;
-    println!(rt; "begin {} end {}", store.size(begin)?, store.size(end)?)?;
-    println!(rt; "and {} or {}", store.size(both)?, store.size(either)?)?;
-    println!(rt;
-        "not {} at most one {}",
-        store.size(other)?,
-        store.size(one)?
-    )?;
-    let not_both = not(&mut store, both)?;
-    println!(rt; "at most one is not both {}", store.same_set(one, not_both))?;
-    let two = at_most(&mut store, 2, &[begin, end])?;
-    println!(rt; "at most two is all {}", store.same_set(two, store.full(0)))?;
-    let none = and(&mut store, begin, other)?;
-    println!(rt; "none {}", store.same_set(none, store.empty(0)))?;
-    let twice = at_most(&mut store, 1, &[begin, begin])?;
-    println!(rt; "a set twice {}", store.same_set(twice, other))?;
+    println!(rt; "not {}", store.size(other)?)?;
+    Ok(())
+}
+
+fn tell_at_most(rt: &HostRuntime, most: u32) -> Result<()> {
+    let mut store = Store::new(rt.alloc(), &[2, 2])?;
+    let begin = begins(&mut store)?;
+    let end = ends(&mut store)?;
+    let few = at_most(&mut store, most, &[begin, end])?;
+    println!(rt; "at most {most}: {}", store.size(few)?)?;
     Ok(())
 }
 

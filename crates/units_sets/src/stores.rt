@@ -36,8 +36,8 @@ pub fn tell_wide(rt: &HostRuntime) -> Result<()> {
         store.domain(1)
     )?;
     let end = store.full_end();
-    let whole = store.node(1, &[end; 64])?;
-    println!(rt; "whole {}", store.same_set(whole, store.full(1)))?;
+    let whole = store.full(1);
+    println!(rt; "whole {}", store.size(whole)?)?;
     let root = store.node(0, &[whole])?;
     println!(rt; "root {} at layer {}", root == store.full(0), root.layer())?;
     println!(rt; "size {}", store.size(root)?)?;
