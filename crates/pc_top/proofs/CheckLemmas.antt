@@ -41,7 +41,7 @@ tells_good raw diagram (Err e) same none is = tt
 
 pub tells_fault : {E : Type 0} (raw : RawDiagram) (found : DiagramFault) (result : Result Reply E) → (found ≢ fault.NoMemory → first_fault raw ≡ Some found) → IfOk result (λ reply. Is reply (refused_diagram found)) → OnOk result (found ≢ fault.NoMemory) → IfOk result (λ reply. Tells (Tables raw) reply.status reply.text)
 tells_fault raw found (Ok reply) first is named =
-    subst (λ s. Tells (Tables raw) s reply.text) (sym (is.status ∙ fault_refused found named)) (found, (first named, is.text))
+    subst (λ s. Tells (Tables raw) s reply.text) (sym (is.status ∙ fault_refused found named)) (found, first named, is.text)
 tells_fault raw found (Err e) first is named = tt
 
 pub tells_misfit : {E : Type 0} (line : ℕ) (result : Result Reply E) → IfOk result (λ reply. Is reply (refused_form line)) → IfOk result (λ reply. Tells (Misfit line) reply.status reply.text)
@@ -102,7 +102,7 @@ done status before after checked =
     (λ b e. subst (λ (t : List ℕ). Called status t) (sym e) (inl (subst (λ (o : Option LineFault). CallsFor o checked.text status) (sym checked.reads.within) (checked.answer, checked.means))))
 
 long : (limit : Option LineFault) (text : List ℕ) → IsSome limit → CallsFor limit text TooLong
-long None text some = absurd some
+long None text some = absurd cc
 long (Some found) text some = refl
 
 called : (status : Status) (before after : Ends) → CheckLeaves status before after → IfSome before.rest (Called status)

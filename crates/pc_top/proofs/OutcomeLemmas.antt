@@ -91,7 +91,7 @@ answered status before after answers =
     (λ b e. inl (sym (ap status_by_text e ∙ ap (λ (o : Option LineFault). status_or_long o answers.text) answers.reads.within ∙ sym answers.means.1)))
 
 long : (limit : Option LineFault) (text : List ℕ) → IsSome limit → status_or_long limit text ≡ TooLong
-long None text some = absurd some
+long None text some = absurd cc
 long (Some fault) text some = refl
 
 called_for : (status : Status) (before after : Ends) → Leaves job.List status before after → IfSome before.rest (λ text. IsCalledFor (status_by_text text) status)
