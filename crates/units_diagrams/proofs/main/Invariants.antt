@@ -2,4 +2,4 @@
 use Rattle.units_diagrams.proofs.main.Given as goal
 
 abbrev pub ghosts-tell_diagram : goal.ghosts-tell_diagram
-ghosts-tell_diagram g a = record { name = a.blank.name; parts = a.blank.parts }
+ghosts-tell_diagram a = record { name = a.blank.name; parts = a.blank.parts }
