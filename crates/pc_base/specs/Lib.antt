@@ -2,3 +2,4 @@ pub mod Rose
 pub mod Distinct
 pub mod Lines
 pub mod Reserved
+pub mod Reader
