@@ -2,6 +2,7 @@
 
 ghost use Rattle.std.specs.Prelude.{◌≡◌, ◌≤◌, ◌↔◌, length, IsTrue, IfOk, IsErrOf};
 ghost use Rattle.pc_file.specs.Limits.{IsFile};
+ghost use Rattle.pc_file.specs.Catalogue.{Indexes};
 ghost use Rattle.pc_file.specs.Positions.{variable_named, value_named, cost_at, cost_named};
 
 use crate::catalogue::Catalogue;
@@ -85,12 +86,26 @@ impl File {
         let Some(names) = Catalogue::of(alloc, variables.as_slice())? else {
             return Err(FileFault::Limit);
         };
-        Ok(File {
+        Ok(File::with_names(costs, variables, rules, names))
+    }
+
+    /// The file of costs, variables and rules that are known to keep all limits, with the names of the variables.
+    pub fn with_names(
+        costs: Sequence<Name>,
+        variables: Sequence<Variable>,
+        rules: Sequence<Rule>,
+        names: Catalogue,
+    ) -> File
+        requires limits { IsFile (record { costs = costs; variables = variables; rules = rules }) }
+        requires names { Indexes names variables }
+        ensures { result ≡ record { costs = costs; variables = variables; rules = rules } }
+    {
+        File {
             costs,
             variables,
             rules,
             names,
-        })
+        }
     }
 
     /// The names of the costs.
