@@ -1,3 +1,4 @@
 pub mod DistinctLemmas
 pub mod LineCuts
 pub mod WidthLemmas
+pub mod GrownLemmas

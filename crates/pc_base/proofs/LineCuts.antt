@@ -24,11 +24,11 @@ from_feed-byte : (x : ℕ) (xs : List ℕ) → is_feed x ≡ false → from_feed
 unfolding from_feed
 from_feed-byte x xs is = cond-false (is_feed x) _ _ is
 
-lines-feed : (x : ℕ) (xs : List ℕ) → is_feed x ≡ true → lines (x ∷ xs) ≡ [] ∷ lines xs
+pub lines-feed : (x : ℕ) (xs : List ℕ) → is_feed x ≡ true → lines (x ∷ xs) ≡ [] ∷ lines xs
 unfolding lines
 lines-feed x xs is = cond-true (is_feed x) _ _ is
 
-lines-byte : (x : ℕ) (xs : List ℕ) → is_feed x ≡ false → lines (x ∷ xs) ≡ onto_first x (lines xs)
+pub lines-byte : (x : ℕ) (xs : List ℕ) → is_feed x ≡ false → lines (x ∷ xs) ≡ onto_first x (lines xs)
 unfolding lines
 lines-byte x xs is = cond-false (is_feed x) _ _ is
 

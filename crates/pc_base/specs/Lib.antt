@@ -3,3 +3,4 @@ pub mod Distinct
 pub mod Lines
 pub mod Reserved
 pub mod Reader
+pub mod Grown

@@ -1,16 +1,16 @@
 -- Lines that are judged one after the other.
-use Rattle.std.proofs.Common.{◌≡◌, ◌≢◌, ℕ, zero, suc, ◌+◌, ◌-◌, ◌*◌, ◌<◌, ◌≤◌, List, [], ◌∷◌, ◌++◌, take, drop, length, replicate, All, Option, None, Some, refl, sym, ap, ◌∙◌, subst, arith, append_assoc, length-append}
+use Rattle.std.proofs.Common.{◌≡◌, ℕ, zero, suc, ◌+◌, ◌-◌, ◌*◌, ◌<◌, List, [], ◌∷◌, ◌++◌, take, drop, length, replicate, All, Option, None, refl, sym, ap, ◌∙◌, subst, arith, append_assoc, length-append}
 use Rattle.std.proofs.lemmas.List.{append-nil, take-append-le, take_all, length-replicate}
 use Rattle.std.proofs.lemmas.List.Elements.{All-append, All-nil, All-replicate}
 use Rattle.pc_diagram.specs.declared.raw_diagram.RawDiagram.{RawDiagram}
 use Rattle.pc_dump.specs.declared.draft.Awaited.{Awaited}
 use Rattle.pc_dump.specs.declared.draft.Awaited.TheVariants.{Header, Domains, Layer, Node, End, Nothing}
 use Rattle.pc_dump.specs.declared.draft.Draft.{Draft}
-use Rattle.pc_dump.specs.declared.dump.Dump.TheVariants.{Tables, Misfit}
-use Rattle.pc_dump.specs.Draft.{GoesOn, FillsUp, IsDraft, IsDraftAt, Refuses, Rest, RestAt, TakesLine, tables_of}
+use Rattle.pc_dump.specs.declared.dump.Dump.TheVariants.{Tables}
+use Rattle.pc_dump.specs.Draft.{IsDraftAt, Refuses, Rest, RestAt, TakesLine, tables_of}
 use Rattle.pc_dump.specs.Dump.{Words, dump_words, domains_words, end_words, layers, nodes}
 use Rattle.pc_dump.specs.Form.{AreLayers, AreTables, Begins, IsDump, IsEdge, IsFirstMisfit, IsLayer, IsNumber}
-use Rattle.pc_dump.specs.Judged.{GoesWrong, IsJudged, IsRead}
+use Rattle.pc_dump.specs.Judged.{GoesWrong, IsRead}
 use Rattle.pc_dump.proofs.LayerLemmas.{closed_join}
 use Rattle.pc_dump.proofs.StepLemmas.{layers_left}
 

@@ -1,5 +1,5 @@
 -- Whole layers and those after them.
-use Rattle.std.proofs.Common.{◌≡◌, ℕ, zero, suc, ◌+◌, ◌<◌, ◌≤◌, List, [], ◌∷◌, ◌++◌, length, drop, get_or, Option, refl, sym, ap, ◌∙◌, subst, arith}
+use Rattle.std.proofs.Common.{◌≡◌, ℕ, zero, suc, ◌<◌, ◌≤◌, List, [], ◌∷◌, ◌++◌, length, drop, get_or, Option, refl, subst, arith}
 use Rattle.pc_dump.specs.Form.{AreLayers, IsLayer}
 use Rattle.pc_dump.specs.Draft.{AreClosed}
 

@@ -3,6 +3,7 @@ pub mod LayerLemmas
 pub mod PutLemmas
 pub mod ReadLemmas
 pub mod StepLemmas
+pub mod TextLemmas
 pub mod ToldApart
 pub mod WordLemmas
 pub mod WriteLemmas

@@ -1,8 +1,8 @@
 -- Words that are put one after the other.
-use Rattle.std.proofs.Common.{◌≡◌, ℕ, zero, suc, ◌+◌, ◌<◌, List, [], ◌∷◌, ◌++◌, map, take, length, get_or, All, Option, refl, sym, ap, ◌∙◌, arith, append_assoc}
+use Rattle.std.proofs.Common.{◌≡◌, ℕ, zero, suc, ◌+◌, ◌<◌, List, [], ◌∷◌, ◌++◌, map, take, length, get_or, All, Option, sym, ap, ◌∙◌, arith, append_assoc}
 use Rattle.std.proofs.lemmas.List.{map-append}
 use Rattle.std.proofs.lemmas.List.Elements.{All-head, All-tail, All-push}
-use Rattle.pc_dump.specs.Dump.{Words, edge_word}
+use Rattle.pc_dump.specs.Dump.{edge_word}
 use Rattle.pc_dump.specs.Form.{IsEdge}
 use Rattle.pc_dump.specs.Put.{AreEdgesPut}
 

@@ -1,15 +1,15 @@
 -- What each kind of line does to a draft.
-use Rattle.std.proofs.Common.{◌≡◌, ℕ, zero, suc, ◌+◌, ◌*◌, ◌<◌, ◌≤◌, List, [], ◌∷◌, ◌++◌, map, take, drop, length, All, Option, codes, refl, sym, ap, ◌∙◌, subst, arith, append_assoc, length-append, add-one, rules}
+use Rattle.std.proofs.Common.{◌≡◌, ℕ, suc, ◌+◌, ◌*◌, ◌≤◌, List, [], ◌∷◌, ◌++◌, map, take, drop, length, All, Option, codes, refl, sym, ap, ◌∙◌, subst, arith, append_assoc, length-append, add-one, rules}
 use Rattle.std.specs.Fmt.{decimal}
 use Rattle.std.proofs.lemmas.List.{append-nil, take-append-drop, take-append-le, drop-append-le, take_all, drop_all, length-take-le}
 use Rattle.std.proofs.lemmas.List.Elements.{All-append, All-take, All-tail}
 use Rattle.pc_diagram.specs.declared.raw_diagram.RawDiagram.{RawDiagram}
 use Rattle.pc_dump.specs.declared.draft.Awaited.{Awaited}
-use Rattle.pc_dump.specs.declared.draft.Awaited.TheVariants.{Header, Domains, Layer, Node, End, Nothing}
+use Rattle.pc_dump.specs.declared.draft.Awaited.TheVariants.{Header, Domains, Layer, End, Nothing}
 use Rattle.pc_dump.specs.declared.draft.Draft.{Draft}
-use Rattle.pc_dump.specs.Dump.{Words, edge_word, header_words, domains_words, layer_words, node_words, end_words, nodes, layers, dump_words}
+use Rattle.pc_dump.specs.Dump.{Words, edge_word, header_words, domains_words, layer_words, node_words, end_words, nodes, layers}
 use Rattle.pc_dump.specs.Form.{AreLayers, AreTables, IsEdge, IsLayer, IsNumber}
-use Rattle.pc_dump.specs.Draft.{AreClosed, IsBegun, IsOpen, tables_of, IsDraftAt, IsDraft, GoesOn, FillsUp, RestAt, Rest, TakesLine, Settles, Refuses}
+use Rattle.pc_dump.specs.Draft.{AreClosed, IsBegun, IsOpen, tables_of, IsDraftAt, GoesOn, FillsUp, RestAt, Rest, TakesLine, Settles, Refuses}
 use Rattle.pc_dump.proofs.LayerLemmas.{closed_join, closed_split, closed_more, closed_within, drop_next}
 use Rattle.pc_dump.proofs.WordLemmas.{edge_injective, map_injective, number_injective}
 

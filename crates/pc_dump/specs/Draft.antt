@@ -5,7 +5,7 @@ use Rattle.pc_dump.specs.declared.draft.Awaited.{Awaited}
 use Rattle.pc_dump.specs.declared.draft.Awaited.TheVariants.{Header, Domains, Layer, Node, End, Nothing}
 use Rattle.pc_dump.specs.declared.draft.Draft.{Draft}
 use Rattle.pc_dump.specs.Dump.{Words, domains_words, dump_words, end_words, layers, nodes}
-use Rattle.pc_dump.specs.Form.{AreLayers, AreTables, IsEdge, IsLayer, IsNumber}
+use Rattle.pc_dump.specs.Form.{AreTables, IsEdge, IsLayer, IsNumber}
 
 -- the first layers are whole
 abbrev pub AreClosed : List ℕ → List ℕ → List (List (Option ℕ)) → Type 0

@@ -1,3 +1,4 @@
+pub mod Bike
 pub mod Draft
 pub mod Dump
 pub mod Form

@@ -1,7 +1,8 @@
 //! The text that a diagram prints.
 
-ghost use Rattle.std.specs.Prelude.{◌≡◌, ◌<◌, ◌≤◌, ◌++◌, length, slice_index, OnOk};
+ghost use Rattle.std.specs.Prelude.{◌≡◌, ◌<◌, ◌≤◌, ◌++◌, length, slice_index, OnErr, OnOk};
 ghost use Rattle.std.specs.List.{flat_map};
+ghost use Rattle.pc_base.specs.Grown.{HasGrown};
 ghost use Rattle.pc_diagram.specs.Diagram.{IsCanonical};
 ghost use Rattle.pc_diagram.specs.Levels.{level, row};
 ghost use Rattle.pc_dump.specs.Dump.{domains_words, dump_text, header_words, layer_words, line_of, node_words, nodes};
@@ -12,17 +13,29 @@ use std::marker::Brand;
 use std::sync::ledger::{Blank, Ledger};
 
 /// Puts the text of a diagram at the end.
+///
+/// # Errors
+///
+/// `NoMemory` where memory is wanting; the text is then as it was.
 pub fn push_dump(text: &mut Text, diagram: &Diagram) -> Result<(), NoMemory>
-    ensures { OnOk result (text.new ≡ text.old ++ dump_text diagram.now) }
+    ensures ok { OnOk result (text.new ≡ text.old ++ dump_text diagram.now) }
+    ensures err { OnErr result (text.new ≡ text.old) }
 {
-    push_lines::<Brand>(text, diagram, Blank::new(1))
+    let before = text.len();
+    let done = push_lines::<Brand>(text, diagram, Blank::new(1));
+    if done.is_err() {
+        text.truncate(before);
+    }
+    done
 }
 
+#[tactic(auto, using(pc_base::proofs::GrownLemmas::grown_same, pc_base::proofs::GrownLemmas::grown_on, pc_base::proofs::GrownLemmas::grown_further))]
 fn push_lines<L: Ledger>(text: &mut Text, diagram: &Diagram, blank: Blank) -> Result<(), NoMemory>
     requires name { blank.name ≡ L.name }
     requires parts { blank.parts ≡ L.parts }
     requires some { 0 < blank.parts }
-    ensures { OnOk result (text.new ≡ text.old ++ dump_text diagram.now) }
+    ensures ok { OnOk result (text.new ≡ text.old ++ dump_text diagram.now) }
+    ensures err { OnErr result (HasGrown text.old text.new) }
 {
     let mut steps = Steps::<L>::new(blank);
     let domains = diagram.domains();
@@ -36,8 +49,10 @@ fn push_lines<L: Ledger>(text: &mut Text, diagram: &Diagram, blank: Blank) -> Re
 }
 
 /// The first two lines.
+#[tactic(auto, using(pc_base::proofs::GrownLemmas::grown_same, pc_base::proofs::GrownLemmas::grown_on))]
 fn push_domains(text: &mut Text, domains: &[u32]) -> Result<(), NoMemory>
-    ensures { OnOk result (text.new ≡ text.old ++ line_of header_words ++ line_of (domains_words domains.now)) }
+    ensures ok { OnOk result (text.new ≡ text.old ++ line_of header_words ++ line_of (domains_words domains.now)) }
+    ensures err { OnErr result (HasGrown text.old text.new) }
 {
     text.extend_from_slice(b"diagram 1\ndomains")?;
     for domain in domains {
@@ -48,9 +63,11 @@ fn push_domains(text: &mut Text, domains: &[u32]) -> Result<(), NoMemory>
 }
 
 /// The line of a layer.
+#[tactic(auto, using(pc_base::proofs::GrownLemmas::grown_same, pc_base::proofs::GrownLemmas::grown_on))]
 fn push_layer(text: &mut Text, diagram: &Diagram, layer: u32) -> Result<(), NoMemory>
     requires { layer ≤ length diagram.now.domains }
-    ensures { OnOk result (text.new ≡ text.old ++ line_of (layer_words layer (slice_index diagram.now.sizes layer))) }
+    ensures ok { OnOk result (text.new ≡ text.old ++ line_of (layer_words layer (slice_index diagram.now.sizes layer))) }
+    ensures err { OnErr result (HasGrown text.old text.new) }
 {
     text.extend_from_slice(b"layer ")?;
     text.push_unsigned(u64::from(layer))?;
@@ -60,6 +77,7 @@ fn push_layer(text: &mut Text, diagram: &Diagram, layer: u32) -> Result<(), NoMe
 }
 
 /// The lines of a layer's nodes.
+#[tactic(auto, using(pc_base::proofs::GrownLemmas::grown_same, pc_base::proofs::GrownLemmas::grown_on, pc_base::proofs::GrownLemmas::grown_further))]
 fn push_nodes<L: Ledger>(
     text: &mut Text,
     diagram: &Diagram,
@@ -70,8 +88,9 @@ fn push_nodes<L: Ledger>(
     requires canonical { IsCanonical diagram.now }
     requires variable { variable < length diagram.now.domains }
     requires domain { domain ≡ slice_index diagram.now.domains variable }
-    ensures { OnOk result (text.new ≡ text.old
+    ensures ok { OnOk result (text.new ≡ text.old
         ++ flat_map line_of (nodes domain (slice_index diagram.now.sizes variable) (level diagram.now variable).table)) }
+    ensures err { OnErr result (HasGrown text.old text.new) }
 {
     for node in 0..diagram.nodes(variable) {
         push_node(text, diagram, variable, domain, node, steps)?;
@@ -80,6 +99,7 @@ fn push_nodes<L: Ledger>(
 }
 
 /// The line of a node.
+#[tactic(auto, using(pc_base::proofs::GrownLemmas::grown_same, pc_base::proofs::GrownLemmas::grown_on))]
 fn push_node<L: Ledger>(
     text: &mut Text,
     diagram: &Diagram,
@@ -92,7 +112,8 @@ fn push_node<L: Ledger>(
     requires domain { domain ≡ slice_index diagram.now.domains variable }
     requires node { node < slice_index diagram.now.sizes variable }
     requires count { length (row (level diagram.now variable) node) ≡ domain }
-    ensures { OnOk result (text.new ≡ text.old ++ line_of (node_words (row (level diagram.now variable) node))) }
+    ensures ok { OnOk result (text.new ≡ text.old ++ line_of (node_words (row (level diagram.now variable) node))) }
+    ensures err { OnErr result (HasGrown text.old text.new) }
 {
     text.push(b'n')?;
     for value in 0..domain {

@@ -5,7 +5,6 @@ pub mod LineSizeLemmas
 pub mod ProductLemmas
 pub mod CostLemmas
 pub mod ZipLemmas
-pub mod GrownLemmas
 pub mod PositionLemmas
 pub mod BikeLemmas
 pub mod WordLemmas

@@ -13,6 +13,5 @@ pub mod Products
 pub mod Parts
 pub mod Costs
 pub mod Full
-pub mod Grown
 pub mod ListingText
 pub mod Bike

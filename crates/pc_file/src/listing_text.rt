@@ -2,7 +2,7 @@
 
 ghost use Rattle.std.specs.Prelude.{◌≡◌, ◌++◌, ◌∷◌, codes, OnOk, OnErr};
 ghost use Rattle.std.specs.Fmt.{signed_decimal};
-ghost use Rattle.pc_file.specs.Grown.{HasGrown};
+ghost use Rattle.pc_base.specs.Grown.{HasGrown};
 ghost use Rattle.pc_file.specs.ListingText.{name_text, word_text, item_text, variable_text, listing_text};
 
 use crate::variable::Variable;
@@ -28,7 +28,7 @@ pub fn push_listing(
     done
 }
 
-#[tactic(auto, using(crate::proofs::GrownLemmas::grown_same, crate::proofs::GrownLemmas::grown_on))]
+#[tactic(auto, using(pc_base::proofs::GrownLemmas::grown_same, pc_base::proofs::GrownLemmas::grown_on))]
 fn push_variables(
     text: &mut Text,
     variables: &[Variable],
@@ -43,7 +43,7 @@ fn push_variables(
     Ok(())
 }
 
-#[tactic(auto, using(crate::proofs::GrownLemmas::grown_same, crate::proofs::GrownLemmas::grown_on))]
+#[tactic(auto, using(pc_base::proofs::GrownLemmas::grown_same, pc_base::proofs::GrownLemmas::grown_on))]
 fn push_variable(
     text: &mut Text,
     variables: &[Variable],
@@ -62,7 +62,7 @@ fn push_variable(
     Ok(())
 }
 
-#[tactic(auto, using(crate::proofs::GrownLemmas::grown_same, crate::proofs::GrownLemmas::grown_on))]
+#[tactic(auto, using(pc_base::proofs::GrownLemmas::grown_same, pc_base::proofs::GrownLemmas::grown_on))]
 fn push_item(
     text: &mut Text,
     variables: &[Variable],
@@ -80,7 +80,7 @@ fn push_item(
 }
 
 /// The costs of a listed value, each after a space, and the colon.
-#[tactic(auto, using(crate::proofs::GrownLemmas::grown_same, crate::proofs::GrownLemmas::grown_on))]
+#[tactic(auto, using(pc_base::proofs::GrownLemmas::grown_same, pc_base::proofs::GrownLemmas::grown_on))]
 fn push_costs(text: &mut Text, item: &Listed) -> Result<(), NoMemory>
     ensures ok { OnOk result (text.new ≡ text.old ++ (32 ∷ signed_decimal item.now.first ++ 32 ∷ signed_decimal item.now.second ++ codes " :")) }
     ensures err { OnErr result (HasGrown text.old text.new) }
@@ -92,7 +92,7 @@ fn push_costs(text: &mut Text, item: &Listed) -> Result<(), NoMemory>
     text.extend_from_slice(b" :")
 }
 
-#[tactic(auto, using(crate::proofs::GrownLemmas::grown_same, crate::proofs::GrownLemmas::grown_on))]
+#[tactic(auto, using(pc_base::proofs::GrownLemmas::grown_same, pc_base::proofs::GrownLemmas::grown_on))]
 fn push_word(text: &mut Text, variables: &[Variable], word: &[u32]) -> Result<(), NoMemory>
     ensures ok { OnOk result (text.new ≡ text.old ++ word_text variables.now word.now) }
     ensures err { OnErr result (HasGrown text.old text.new) }
@@ -104,7 +104,7 @@ fn push_word(text: &mut Text, variables: &[Variable], word: &[u32]) -> Result<()
     Ok(())
 }
 
-#[tactic(auto, using(crate::proofs::GrownLemmas::grown_same, crate::proofs::GrownLemmas::grown_on))]
+#[tactic(auto, using(pc_base::proofs::GrownLemmas::grown_same, pc_base::proofs::GrownLemmas::grown_on))]
 fn push_name(text: &mut Text, variable: &Variable, value: u32) -> Result<(), NoMemory>
     ensures ok { OnOk result (text.new ≡ text.old ++ name_text variable.now value) }
     ensures err { OnErr result (HasGrown text.old text.new) }

@@ -4,7 +4,7 @@ ghost use Rattle.std.specs.Prelude.{◌≡◌, ◌++◌, codes, decimal, OnOk, O
 ghost use Rattle.std.specs.List.{flat_map, join_by, zip};
 ghost use Rattle.pc_file.specs.declared.variable.Variable.{Variable};
 ghost use Rattle.pc_file.specs.declared.rule.Rule.TheOpen.{OneOf, Same, Table};
-ghost use Rattle.pc_file.specs.Grown.{HasGrown};
+ghost use Rattle.pc_base.specs.Grown.{HasGrown};
 ghost use Rattle.pc_file.specs.PrintedRule.{printed_variable, printed_value, printed_row, text_of, printed_in_place, printed_rule};
 
 use pc_base::{NoMemory, Sequence, Text};
@@ -26,7 +26,7 @@ pub fn push_rule(text: &mut Text, variables: &[Variable], rule: &Rule) -> Result
 
 /// The same, which may leave a part of the rule in the text where memory is wanted.
 #[cycle(writing)]
-#[tactic(auto, using(pc_file::proofs::GrownLemmas::grown_same, pc_file::proofs::GrownLemmas::grown_on))]
+#[tactic(auto, using(pc_base::proofs::GrownLemmas::grown_same, pc_base::proofs::GrownLemmas::grown_on))]
 fn push_form(text: &mut Text, variables: &[Variable], rule: &Rule) -> Result<(), NoMemory>
     ensures ok { OnOk result (text.new ≡ text.old ++ printed_rule variables.now rule.now) }
     ensures err { OnErr result (HasGrown text.old text.new) }
@@ -63,7 +63,7 @@ fn push_form(text: &mut Text, variables: &[Variable], rule: &Rule) -> Result<(),
 
 /// The rule in a place that asks for a strength.
 #[cycle(writing)]
-#[tactic(auto, using(pc_file::proofs::GrownLemmas::grown_same, pc_file::proofs::GrownLemmas::grown_on))]
+#[tactic(auto, using(pc_base::proofs::GrownLemmas::grown_same, pc_base::proofs::GrownLemmas::grown_on))]
 fn push_in_place(
     text: &mut Text,
     variables: &[Variable],
@@ -83,7 +83,7 @@ fn push_in_place(
 
 /// Members in places of one kind, with something between them.
 #[cycle(writing)]
-#[tactic(auto, using(pc_file::proofs::GrownLemmas::grown_same, pc_file::proofs::GrownLemmas::grown_on))]
+#[tactic(auto, using(pc_base::proofs::GrownLemmas::grown_same, pc_base::proofs::GrownLemmas::grown_on))]
 fn push_members(
     text: &mut Text,
     variables: &[Variable],
@@ -106,7 +106,7 @@ fn push_members(
 }
 
 #[cycle(writing)]
-#[tactic(auto, using(pc_file::proofs::GrownLemmas::grown_same, pc_file::proofs::GrownLemmas::grown_on))]
+#[tactic(auto, using(pc_base::proofs::GrownLemmas::grown_same, pc_base::proofs::GrownLemmas::grown_on))]
 fn push_at_most(
     text: &mut Text,
     variables: &[Variable],
@@ -124,7 +124,7 @@ fn push_at_most(
     text.extend_from_slice(b")")
 }
 
-#[tactic(auto, using(pc_file::proofs::GrownLemmas::grown_same, pc_file::proofs::GrownLemmas::grown_on))]
+#[tactic(auto, using(pc_base::proofs::GrownLemmas::grown_same, pc_base::proofs::GrownLemmas::grown_on))]
 fn push_comparison(
     text: &mut Text,
     variables: &[Variable],
@@ -140,7 +140,7 @@ fn push_comparison(
     push_value(text, variables, variable, value)
 }
 
-#[tactic(auto, using(pc_file::proofs::GrownLemmas::grown_same, pc_file::proofs::GrownLemmas::grown_on))]
+#[tactic(auto, using(pc_base::proofs::GrownLemmas::grown_same, pc_base::proofs::GrownLemmas::grown_on))]
 fn push_one_of(
     text: &mut Text,
     variables: &[Variable],
@@ -156,7 +156,7 @@ fn push_one_of(
     text.extend_from_slice(b"}")
 }
 
-#[tactic(auto, using(pc_file::proofs::GrownLemmas::grown_same, pc_file::proofs::GrownLemmas::grown_on))]
+#[tactic(auto, using(pc_base::proofs::GrownLemmas::grown_same, pc_base::proofs::GrownLemmas::grown_on))]
 fn push_same(
     text: &mut Text,
     variables: &[Variable],
@@ -173,7 +173,7 @@ fn push_same(
     text.extend_from_slice(b")")
 }
 
-#[tactic(auto, using(pc_file::proofs::GrownLemmas::grown_same, pc_file::proofs::GrownLemmas::grown_on))]
+#[tactic(auto, using(pc_base::proofs::GrownLemmas::grown_same, pc_base::proofs::GrownLemmas::grown_on))]
 fn push_table(
     text: &mut Text,
     variables: &[Variable],
@@ -191,7 +191,7 @@ fn push_table(
 }
 
 /// The names of variables, with a comma and a space between them.
-#[tactic(auto, using(pc_file::proofs::GrownLemmas::grown_same, pc_file::proofs::GrownLemmas::grown_on))]
+#[tactic(auto, using(pc_base::proofs::GrownLemmas::grown_same, pc_base::proofs::GrownLemmas::grown_on))]
 fn push_variables(text: &mut Text, variables: &[Variable], these: &[u32]) -> Result<(), NoMemory>
     ensures ok { OnOk result (text.new ≡ text.old ++ join_by (printed_variable variables.now) (codes ", ") these.now) }
     ensures err { OnErr result (HasGrown text.old text.new) }
@@ -208,7 +208,7 @@ fn push_variables(text: &mut Text, variables: &[Variable], these: &[u32]) -> Res
 }
 
 /// The names of values of one variable, with a comma and a space between them.
-#[tactic(auto, using(pc_file::proofs::GrownLemmas::grown_same, pc_file::proofs::GrownLemmas::grown_on))]
+#[tactic(auto, using(pc_base::proofs::GrownLemmas::grown_same, pc_base::proofs::GrownLemmas::grown_on))]
 fn push_values(
     text: &mut Text,
     variables: &[Variable],
@@ -230,7 +230,7 @@ fn push_values(
 }
 
 /// The rows of a table, with a comma and a space between them.
-#[tactic(auto, using(pc_file::proofs::GrownLemmas::grown_same, pc_file::proofs::GrownLemmas::grown_on))]
+#[tactic(auto, using(pc_base::proofs::GrownLemmas::grown_same, pc_base::proofs::GrownLemmas::grown_on))]
 fn push_rows(
     text: &mut Text,
     variables: &[Variable],
@@ -252,7 +252,7 @@ fn push_rows(
 }
 
 /// A row of a table: the names of values, each of its own variable, with a space between them.
-#[tactic(auto, using(pc_file::proofs::GrownLemmas::grown_same, pc_file::proofs::GrownLemmas::grown_on))]
+#[tactic(auto, using(pc_base::proofs::GrownLemmas::grown_same, pc_base::proofs::GrownLemmas::grown_on))]
 fn push_row(
     text: &mut Text,
     variables: &[Variable],
@@ -273,7 +273,7 @@ fn push_row(
 }
 
 /// The values of a row after the first, each after a space.
-#[tactic(auto, using(pc_file::proofs::GrownLemmas::grown_same, pc_file::proofs::GrownLemmas::grown_on))]
+#[tactic(auto, using(pc_base::proofs::GrownLemmas::grown_same, pc_base::proofs::GrownLemmas::grown_on))]
 fn push_more_of_row(
     text: &mut Text,
     variables: &[Variable],
@@ -291,7 +291,7 @@ fn push_more_of_row(
 }
 
 /// The name of a variable, by its position.
-#[tactic(auto, using(pc_file::proofs::GrownLemmas::grown_same, pc_file::proofs::GrownLemmas::grown_on))]
+#[tactic(auto, using(pc_base::proofs::GrownLemmas::grown_same, pc_base::proofs::GrownLemmas::grown_on))]
 fn push_variable(text: &mut Text, variables: &[Variable], variable: u32) -> Result<(), NoMemory>
     ensures ok { OnOk result (text.new ≡ text.old ++ printed_variable variables.now variable) }
     ensures err { OnErr result (HasGrown text.old text.new) }
@@ -303,7 +303,7 @@ fn push_variable(text: &mut Text, variables: &[Variable], variable: u32) -> Resu
 }
 
 /// The name of a value of a variable, by their positions.
-#[tactic(auto, using(pc_file::proofs::GrownLemmas::grown_same, pc_file::proofs::GrownLemmas::grown_on))]
+#[tactic(auto, using(pc_base::proofs::GrownLemmas::grown_same, pc_base::proofs::GrownLemmas::grown_on))]
 fn push_value(
     text: &mut Text,
     variables: &[Variable],

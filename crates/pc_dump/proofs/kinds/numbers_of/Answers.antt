@@ -1,5 +1,5 @@
 -- One word more is a number, or none is.
-use Rattle.std.proofs.Common.{◌≡◌, ◌<◌, [], length, decimal, Some, None, subst, sym, ap, ◌∙◌, map, ◌++◌, ◌∷◌, All, arith}
+use Rattle.std.proofs.Common.{◌≡◌, [], decimal, Some, None}
 use Rattle.std.proofs.lemmas.List.{take_more}
 use Rattle.std.proofs.lemmas.List.Elements.{All-push}
 use Rattle.pc_dump.specs.Form.{IsNumber}

@@ -1,5 +1,5 @@
 -- One word more is an edge, or none is.
-use Rattle.std.proofs.Common.{◌≡◌, ◌<◌, [], length, Some, None, arith}
+use Rattle.std.proofs.Common.{◌≡◌, [], Some, None}
 use Rattle.std.proofs.lemmas.List.{take_more}
 use Rattle.pc_dump.specs.Dump.{edge_word}
 use Rattle.pc_dump.specs.Form.{IsEdge}

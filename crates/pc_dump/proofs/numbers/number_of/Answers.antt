@@ -1,5 +1,5 @@
 -- A number below 2^32 is read, and kept whole.
-use Rattle.std.proofs.Common.{◌≡◌, ℕ, ◌<◌, ◌^◌, ℤ, pos, Some, None, Result, Ok, FitsSigned, w64, ap, subst, ◌∙◌, arith, to_z, of_z}
+use Rattle.std.proofs.Common.{◌≡◌, ℕ, ◌<◌, ◌^◌, ℤ, pos, Some, None, Result, FitsSigned, w64, ap, subst, ◌∙◌, arith, to_z, of_z}
 use Rattle.std.proofs.Math.Facts.{to_z-of_z}
 use Rattle.std.proofs.lemmas.Result.{Ok-from_Ok_iff}
 use Rattle.std.specs.Int.{FitsUnsignedBits}

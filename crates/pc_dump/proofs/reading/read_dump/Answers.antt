@@ -1,14 +1,10 @@
 -- Each line is taken, and at the end all are.
-use Rattle.std.proofs.Common.{◌≡◌, List, [], ◌++◌, refl, subst, ap, rules}
-use Rattle.std.specs.List.{slice_split}
+use Rattle.std.proofs.Common.{[], refl, rules}
 use Rattle.std.proofs.lemmas.Result.{err_from_is_err_and}
 use Rattle.std.proofs.lemmas.Grind.{common_steps}
-use Rattle.pc_dump.specs.Dump.{Words}
-use Rattle.pc_dump.specs.Judged.{HasTaken}
 use Rattle.pc_dump.proofs.ReadLemmas.{lines_on, nothing_read, reads_all, told_fault, told_lines}
 use Rattle.pc_dump.proofs.reading.read_dump.Goals as goal
 use Rattle.pc_io.proofs.WholeRead.{ReadSoFar, exact_at_fault}
-use Rattle.pc_names.specs.Spaces.{is_space}
 
 pub loop-reader-init : goal.loop-reader-init
 loop-reader-init g c =

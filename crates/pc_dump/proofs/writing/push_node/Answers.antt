@@ -1,9 +1,9 @@
 -- One edge more stands in the line.
-use Rattle.std.proofs.Common.{◌≡◌, ◌<◌, ◌≤◌, ◌++◌, length, take, get_or, None, Some, sym, ap, ◌∙◌, arith}
+use Rattle.std.proofs.Common.{◌≡◌, ◌<◌, ◌≤◌, ◌++◌, length, get_or, None, sym, ap, ◌∙◌, arith}
 use Rattle.std.specs.Fmt.{decimal}
 use Rattle.std.proofs.lemmas.List.{append-nil, take_all, take_more}
 use Rattle.std.proofs.lemmas.Result.{on_ok_weaker}
-use Rattle.pc_diagram.specs.Levels.{edge, level, row}
+use Rattle.pc_diagram.specs.Levels.{level, row}
 use Rattle.pc_dump.specs.Dump.{edge_word}
 use Rattle.pc_dump.proofs.WriteLemmas.{node_more, node_whole, spaced, spaced-none}
 use Rattle.pc_dump.proofs.writing.push_node.Goals as goal
@@ -29,8 +29,8 @@ loop-value-preserved g c =
     node_more _ c.loop-value.text before c.match-edge.text edges i (get_or edges i None) c.loop-value.invariant c.in_ok-push-2.ensures.ok
     (put ∙ ap (λ e. before ++ edge_word e) c.edge.ensures.edge) (take_more edges i None inside)
 
-pub returns : goal.returns
-returns g c =
+pub returns-clause-ok : goal.returns-clause-ok
+returns-clause-ok g c =
     let edges = row (level c.args.diagram.now c.args.variable) c.args.node in
     let past : length edges ≤ c.loop-value.value = omega (arith, c.requires.count) in
     on_ok_weaker c.push-2.result (λ e. node_whole c.args.text.now c.push.new.self c.loop-value.text c.push-2.new.self edges c.in_ok-push.ensures.ok

@@ -1,6 +1,7 @@
 -- One node's line more.
-use Rattle.std.proofs.Common.{◌≡◌, ◌+◌, ◌*◌, ◌<◌, ◌++◌, get_or, sym, ap, ◌∙◌, arith}
+use Rattle.std.proofs.Common.{◌+◌, ◌*◌, ◌<◌, ◌++◌, get_or, refl, sym, ap, ◌∙◌, arith}
 use Rattle.std.specs.List.{slice_range}
+use Rattle.pc_base.proofs.GrownLemmas.{grown_same, grown_on, grown_further}
 use Rattle.pc_diagram.specs.Levels.{level}
 use Rattle.pc_dump.specs.Dump.{line_of, node_words}
 use Rattle.pc_dump.proofs.WriteLemmas.{nodes_on}
@@ -14,5 +15,9 @@ loop-node-preserved g c =
     let node = c.loop-node.node in
     let text = c.loop-node.text in
     let inside : node < size = omega (arith, c.nodes-node-end.ensures) in
-    nodes_on c.args.domain size node table _ text c.push_node.new.text inside c.loop-node.invariant
-    (c.in_ok-push_node.ensures ∙ ap (λ n. text ++ line_of (node_words (slice_range table (node * n) (node * n + n)))) (sym c.requires.domain))
+    let last = c.push_node.new.text in
+    let grown = grown_on text _ last last c.in_ok-push_node.ensures.ok (grown_same last last refl) in (
+      nodes_on c.args.domain size node table _ text last inside c.loop-node.invariant.0
+          (c.in_ok-push_node.ensures.ok ∙ ap (λ n. text ++ line_of (node_words (slice_range table (node * n) (node * n + n)))) (sym c.requires.domain)),
+      grown_further _ text last c.loop-node.invariant.1 grown,
+    )

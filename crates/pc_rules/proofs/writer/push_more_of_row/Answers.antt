@@ -5,7 +5,7 @@ use Rattle.std.proofs.Math.Seq.{take-length}
 use Rattle.std.proofs.lemmas.Slice.Zip.{length-zip, zip_turn, zip_end}
 use Rattle.pc_file.specs.declared.variable.Variable.{Variable}
 use Rattle.pc_file.specs.PrintedRule.{printed_value}
-use Rattle.pc_file.proofs.GrownLemmas.{grown_on}
+use Rattle.pc_base.proofs.GrownLemmas.{grown_on}
 use Rattle.pc_file.proofs.ZipLemmas.{zip_more}
 use Rattle.pc_rules.proofs.writer.push_more_of_row.Goals as goal
 

@@ -1,8 +1,7 @@
 -- The line of the domains.
-use Rattle.std.proofs.Common.{◌≡◌, [], ◌<◌, ◌^◌, length, map, subst, sym, arith}
+use Rattle.std.proofs.Common.{[], length, subst, sym, arith}
 use Rattle.pc_dump.specs.declared.draft.Awaited.TheVariants.{Layer}
 use Rattle.pc_dump.specs.Draft.{TakesLine}
-use Rattle.pc_dump.specs.Dump.{domains_words}
 use Rattle.pc_dump.specs.Form.{IsNumber}
 use Rattle.pc_dump.proofs.StepLemmas.{domains_taken}
 use Rattle.pc_dump.proofs.draft.Draft.take_domains.Goals as goal

@@ -1,9 +1,8 @@
 -- The line of a layer, which is the next one.
-use Rattle.std.proofs.Common.{◌≡◌, ◌<◌, ◌≤◌, ◌≢◌, [], ◌++◌, ◌∷◌, length, map, Some, None, refl, subst, sym, ap, ◌∙◌, arith}
+use Rattle.std.proofs.Common.{◌≡◌, ◌<◌, ◌≢◌, [], ◌++◌, ◌∷◌, length, Some, None, refl, subst, sym, ap, ◌∙◌, arith}
 use Rattle.pc_dump.specs.declared.draft.Awaited.TheVariants.{Layer, Node, End}
 use Rattle.pc_dump.specs.Draft.{Settles, TakesLine}
 use Rattle.pc_dump.specs.Dump.{layer_words}
-use Rattle.pc_dump.specs.Form.{IsNumber}
 use Rattle.pc_dump.proofs.LayerLemmas.{closed_within, some_left}
 use Rattle.pc_dump.proofs.StepLemmas.{ended_tables, last_back, last_on, layer_back, layer_line, layer_on, layer_open, number_told, refuses, small_place, takes, takes_settled}
 use Rattle.pc_dump.proofs.draft.Draft.take_layer.Goals as goal

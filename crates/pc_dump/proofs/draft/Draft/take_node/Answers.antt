@@ -1,5 +1,5 @@
 -- The line of a node of the open layer.
-use Rattle.std.proofs.Common.{◌≡◌, ℕ, suc, ◌-◌, ◌++◌, map, length, get_or, Ok, subst, sym, ap, ◌∙◌, arith}
+use Rattle.std.proofs.Common.{◌≡◌, suc, ◌-◌, ◌++◌, length, get_or, Ok, subst, sym, ap, ◌∙◌, arith}
 use Rattle.pc_dump.specs.declared.draft.Awaited.TheVariants.{Node}
 use Rattle.pc_dump.specs.Draft.{IsOpen, Settles, TakesLine}
 use Rattle.pc_dump.specs.Dump.{node_words}

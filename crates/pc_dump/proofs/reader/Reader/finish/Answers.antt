@@ -1,8 +1,7 @@
 -- All lines were taken.
-use Rattle.std.proofs.Common.{◌≡◌, ◌+◌, Some, None, subst, ap, ◌∙◌}
-use Rattle.pc_dump.specs.declared.draft.Awaited.TheVariants.{Nothing}
-use Rattle.pc_dump.specs.Judged.{HasTaken, IsJudged, IsRead}
-use Rattle.pc_dump.proofs.JudgedLemmas.{early_end, whole_end, wrong_at_end}
+use Rattle.std.proofs.Common.{◌≡◌, ◌+◌, None, subst, ap}
+use Rattle.pc_dump.specs.Judged.{IsJudged, IsRead}
+use Rattle.pc_dump.proofs.JudgedLemmas.{early_end, whole_end}
 use Rattle.pc_dump.proofs.reader.Reader.finish.Goals as goal
 
 pub returns-in-Nothing : goal.returns-in-Nothing

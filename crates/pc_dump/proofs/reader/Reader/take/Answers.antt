@@ -1,9 +1,9 @@
 -- The next line goes on with what was read, or is the first that goes wrong.
-use Rattle.std.proofs.Common.{◌≡◌, ◌+◌, List, [], ◌∷◌, ◌++◌, map, length, Ok, Some, None, subst, sym, ap, ◌∙◌, length-append, arith}
+use Rattle.std.proofs.Common.{◌≡◌, ◌+◌, [], ◌∷◌, ◌++◌, map, length, Ok, subst, sym, ap, ◌∙◌, length-append, arith}
 use Rattle.std.specs.List.{slice_split}
 use Rattle.pc_dump.specs.Draft.{Refuses, TakesLine}
 use Rattle.pc_dump.specs.Dump.{Words}
-use Rattle.pc_dump.specs.Judged.{HasTaken, IsJudged, IsRead}
+use Rattle.pc_dump.specs.Judged.{IsJudged, IsRead}
 use Rattle.pc_dump.proofs.JudgedLemmas.{read_on, wrong_here}
 use Rattle.pc_dump.proofs.reader.Reader.take.Goals as goal
 use Rattle.pc_dump.proofs.reader.Reader.take.Goals.{then-not-branch, else-not-branch}
