@@ -10,7 +10,8 @@ use Rattle.pc_calls.specs.declared.line_call.LineCall.{LineCall}
 use Rattle.std.specs.Prelude.{MatchResult}
 use Rattle.std.proofs.lemmas.List.{append-nil}
 use Rattle.pc_calls.specs.LineWords.{LineWord, words_from}
-use Rattle.pc_calls.specs.CommandReader.{Rest, rest_of, WordReader, ◌>>=◌, ◌>>◌, pure, and_then, word_of_kind, said, end, flag, wrong, line_count_of, name_of}
+use Rattle.pc_base.specs.Reader.{◌>>=◌, ◌>>◌, pure, and_then}
+use Rattle.pc_calls.specs.CommandReader.{Rest, rest_of, WordReader, word_of_kind, said, end, flag, wrong, line_count_of, name_of}
 use Rattle.pc_calls.specs.CommandLine.{command_of, arguments, command_line, value_of, line_call}
 use Rattle.pc_calls.specs.CommandTable.{WordKind, unsigned, number, line_count, name, dropping, is_of_kind, kinds, may_end, first_wrong, wrong_after, wrong_among, bad_column}
 

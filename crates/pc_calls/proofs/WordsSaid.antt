@@ -14,7 +14,8 @@ use Rattle.pc_calls.specs.declared.command.Command.TheVariants as command
 use Rattle.pc_calls.specs.declared.line_call.LineCall.{LineCall}
 use Rattle.pc_calls.specs.declared.line_call.LineCall.TheVariants.{Whole, PublishHead}
 use Rattle.pc_calls.specs.LineWords.{LineWord, words_from}
-use Rattle.pc_calls.specs.CommandReader.{Rest, rest_of, WordReader, ◌>>=◌, ◌>>◌, pure, and_then, word_of_kind, said, end, none_of, flag, wrong, line_count_of, name_of}
+use Rattle.pc_base.specs.Reader.{◌>>=◌, ◌>>◌, pure, and_then}
+use Rattle.pc_calls.specs.CommandReader.{Rest, rest_of, WordReader, word_of_kind, said, end, none_of, flag, wrong, line_count_of, name_of}
 use Rattle.pc_calls.specs.CommandLine.{command_of, arguments, command_line, value_of, line_call}
 use Rattle.pc_calls.specs.CallWords.{spellings, call_words, IsSayable, IsUnsigned, IsName}
 use Rattle.pc_calls.proofs.KindLemmas.{IsCount, number_read, unsigned_read, unsigned_again, line_count_read, line_count_again, name_read, name_again}

@@ -8,7 +8,8 @@ use Rattle.pc_calls.specs.declared.command.Command.{Command}
 use Rattle.pc_calls.specs.declared.command.Command.TheVariants as command
 use Rattle.pc_calls.specs.declared.line_call.LineCall.{LineCall}
 use Rattle.pc_calls.specs.declared.line_call.LineCall.TheVariants.{Whole, PublishHead}
-use Rattle.pc_calls.specs.CommandReader.{Rest, rest_of, WordReader, ◌>>=◌, ◌>>◌, pure, word_of_kind, end, flag, line_count_of, name_of}
+use Rattle.pc_base.specs.Reader.{◌>>=◌, ◌>>◌, pure}
+use Rattle.pc_calls.specs.CommandReader.{Rest, rest_of, WordReader, word_of_kind, end, flag, line_count_of, name_of}
 
 -- the command that a word is
 unfoldable pub command_of : List ℕ → Option Command

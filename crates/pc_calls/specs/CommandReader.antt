@@ -1,5 +1,6 @@
 -- Reading the words of a line from left to right, up to the first wrong word.
 use Rattle.std.specs.Prelude.{ℕ, ◌+◌, Bool, true, false, ◌&&◌, nat_le, if◌then◌else◌, List, [], ◌∷◌, length, Option, Some, None, option_and_then, Result, Ok, Err}
+use Rattle.pc_base.specs.Reader.{Reader}
 use Rattle.pc_names.specs.Name.{is_name}
 use Rattle.pc_names.specs.Number.{unsigned_of}
 use Rattle.pc_names.specs.Spelling.{same_spelling}
@@ -26,22 +27,7 @@ missing line_length = record { column = line_length + 1 }
 
 -- Gives a value and the words that are left after it, or the column of the first word that is wrong or missing.
 abbrev pub WordReader : Type 0 → Type 0
-WordReader A = Rest → Result (A × Rest) BadColumn
-
-abbrev pub and_then : {A B : Type 0} → Result (A × Rest) BadColumn → (A → WordReader B) → Result (B × Rest) BadColumn
-and_then (Ok found) next = next found.0 found.1
-and_then (Err column) next = Err column
-
-infixl 10 ◌>>=◌
-abbrev pub ◌>>=◌ : {A B : Type 0} → WordReader A → (A → WordReader B) → WordReader B
-reader >>= next = λ rest. and_then (reader rest) next
-
-infixl 10 ◌>>◌
-abbrev pub ◌>>◌ : {A B : Type 0} → WordReader A → WordReader B → WordReader B
-reader >> next = reader >>= (λ _. next)
-
-abbrev pub pure : {A : Type 0} → A → WordReader A
-pure value = λ rest. Ok (value, rest)
+WordReader = Reader Rest BadColumn
 
 -- what a word says, if it says something
 abbrev pub said : {A : Type 0} → Option A → LineWord → Rest → Result (A × Rest) BadColumn
