@@ -15,4 +15,5 @@ pub mod RowLemmas
 pub mod ShapeLemmas
 pub mod TurnLemmas
 pub mod UniqueLemmas
+pub mod WeightLemmas
 pub mod WordLemmas

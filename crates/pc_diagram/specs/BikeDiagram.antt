@@ -1,5 +1,6 @@
 -- The diagram of the bikes, and tables that are none.
 use Rattle.std.specs.Prelude.{ℕ, List, [], ◌∷◌, Option, Some, None}
+use Rattle.pc_diagram.specs.declared.choice.Choice.{Choice}
 use Rattle.pc_diagram.specs.declared.raw_diagram.RawDiagram.{RawDiagram}
 
 -- two edges
@@ -22,6 +23,14 @@ bike_tables wheels lights = record {
 -- the second wheel and either light
 abbrev pub bike_diagram : RawDiagram
 bike_diagram = bike_tables (six (Some 0) (Some 0) (Some 1) (Some 1) None (Some 1)) (Some 0 ∷ None ∷ Some 0 ∷ Some 0 ∷ [])
+
+-- the third frame is chosen
+abbrev pub carbon : Choice
+carbon = record { variable = 0; value = 2 }
+
+-- a beginning or an end of two values
+abbrev pub two_values : ℕ → ℕ → List ℕ
+two_values first second = first ∷ second ∷ []
 
 -- the same with the nodes of the last variable changed about
 abbrev pub bike_out_of_order : RawDiagram

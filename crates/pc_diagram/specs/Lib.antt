@@ -11,7 +11,9 @@ pub mod Edges
 pub mod Fitting
 pub mod Levels
 pub mod Listing
+pub mod NodePaths
 pub mod Paths
 pub mod Priced
 pub mod Rests
+pub mod Weight
 pub mod Words

@@ -1,12 +1,14 @@
 //! Laws of diagrams. Each function's contract is a law; nothing calls them.
 
-ghost use Rattle.std.specs.Prelude.{◌≡◌, ◌≢◌, ◌≤◌, ◌↔◌, ℕ, List, [], length, take, drop, sum, slice_index, true, Some, None};
+ghost use Rattle.std.specs.Prelude.{◌≡◌, ◌≢◌, ◌≤◌, ◌↔◌, ℕ, List, [], ◌∷◌, length, take, drop, sum, slice_index, true, Some, None};
 ghost use Rattle.pc_diagram.specs.declared.diagram_fault.DiagramFault.TheVariants.{Shape, EdgeOut, Dead, Unreached, Twin, Order};
 ghost use Rattle.pc_diagram.specs.declared.raw_diagram.RawDiagram.{RawDiagram};
-ghost use Rattle.pc_diagram.specs.Bike.{bikes};
-ghost use Rattle.pc_diagram.specs.BikeDiagram.{bike_diagram, bike_out_of_order, bike_edge_out, bike_dead, bike_unreached, bike_misshapen, twins};
+ghost use Rattle.pc_diagram.specs.Bike.{bikes, bike_costs, pair};
+ghost use Rattle.pc_diagram.specs.BikeDiagram.{bike_diagram, carbon, two_values, bike_out_of_order, bike_edge_out, bike_dead, bike_unreached, bike_misshapen, twins};
+ghost use Rattle.pc_diagram.specs.Costs.{cost_pair};
 ghost use Rattle.pc_diagram.specs.Diagram.{IsCanonical};
 ghost use Rattle.pc_diagram.specs.DiagramFaults.{first_fault};
+ghost use Rattle.pc_diagram.specs.NodePaths.{heads, tails};
 ghost use Rattle.pc_diagram.specs.Paths.{has_word, words};
 ghost use Rattle.pc_diagram.specs.Rests.{rest_count, size};
 ghost use Rattle.pc_diagram.specs.Words.{is_word};
@@ -22,6 +24,21 @@ pub fn bikes_have_a_diagram()
     ensures unreached { first_fault bike_unreached ≡ Some (Unreached 2 1) }
     ensures twin { first_fault twins ≡ Some (Twin 1 1) }
     ensures order { first_fault bike_out_of_order ≡ Some (Order 2 0) }
+{}
+
+/// The worked example, by evaluation: what leads to nodes of the bikes' diagram and what leads on from them, with no choice
+/// and with the third frame chosen.
+pub fn bikes_have_paths()
+    ensures root { heads bike_diagram [] 0 0 ≡ [] ∷ [] }
+    ensures heads { heads bike_diagram [] 2 0 ≡ two_values 0 0 ∷ two_values 0 1 ∷ [] }
+    ensures tails { tails bike_diagram [] 1 0 ≡ two_values 0 0 ∷ two_values 1 0 ∷ [] }
+    ensures terminal { tails bike_diagram [] 3 0 ≡ [] ∷ [] }
+    ensures whole { heads bike_diagram [] 3 0 ≡ bikes }
+    ensures all { tails bike_diagram [] 0 0 ≡ bikes }
+    ensures chosen { heads bike_diagram (carbon ∷ []) 2 1 ≡ two_values 2 1 ∷ [] }
+    ensures shut { heads bike_diagram (carbon ∷ []) 1 0 ≡ [] }
+    ensures rest { tails bike_diagram (carbon ∷ []) 1 2 ≡ tails bike_diagram [] 1 2 }
+    ensures costs { cost_pair (drop 1 bike_costs) (two_values 1 0) ≡ pair 120 1 }
 {}
 
 /// Tables have no fault exactly where they are those of a canonical diagram.

@@ -27,6 +27,7 @@ mod side;
 mod steps;
 mod table;
 mod valid_values;
+mod weight;
 mod which;
 mod word;
 
@@ -43,5 +44,6 @@ pub use raw_diagram::RawDiagram;
 pub use side::Side;
 pub use steps::Steps;
 pub use valid_values::listing;
+pub use weight::{Ranked, Weight};
 pub use which::Which;
 pub use word::Word;

@@ -1,5 +1,5 @@
 -- What is kept is a filter of the choices, which stay distinct.
-use Rattle.std.proofs.Common.{not, ◌==◌, filter, ap, ◌∙◌, rules, tests}
+use Rattle.std.proofs.Common.{not, ◌==◌, ◌∙◌, rules, tests}
 use Rattle.std.proofs.lemmas.Fn.{filter_same}
 use Rattle.pc_diagram.proofs.ChoiceLemmas.{are_distinct-filter}
 use Rattle.pc_diagram.proofs.choices.Choices.without.Goals as goal

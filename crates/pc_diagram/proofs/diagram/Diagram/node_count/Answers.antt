@@ -1,5 +1,5 @@
 -- The nodes are at most as many as a diagram may have.
-use Rattle.std.proofs.Common.{◌≡◌, ◌+◌, ◌<◌, ◌≤◌, take, sum, get_or, length, sym, subst, arith}
+use Rattle.std.proofs.Common.{◌≡◌, ◌+◌, ◌≤◌, take, sum, get_or, sym, subst, arith}
 use Rattle.std.proofs.lemmas.List.Sums.{sum_by_more_le}
 use Rattle.pc_diagram.proofs.diagram.Diagram.node_count.Goals as goal
 
