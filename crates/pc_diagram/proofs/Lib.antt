@@ -7,9 +7,11 @@ pub mod DiagramLemmas
 pub mod EqualWords
 pub mod FirstBelow
 pub mod FirstBest
+pub mod LeastWords
 pub mod LevelLemmas
 pub mod ListingLemmas
 pub mod NoFault
+pub mod PathLemmas
 pub mod PricedLemmas
 pub mod RowLemmas
 pub mod ShapeLemmas

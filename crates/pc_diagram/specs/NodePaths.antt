@@ -3,12 +3,13 @@ use Rattle.std.specs.Prelude.{◌≡◌, ℕ, ◌+◌, ◌<◌, ◌==◌, nat_lt
 use Rattle.pc_diagram.specs.declared.choice.Choice.{Choice}
 use Rattle.pc_diagram.specs.declared.costs.CostPair.{CostPair}
 use Rattle.pc_diagram.specs.declared.raw_diagram.RawDiagram.{RawDiagram}
+use Rattle.pc_diagram.specs.Best.{is_cheaper_word}
 use Rattle.pc_diagram.specs.Choices.{value_of}
 use Rattle.pc_diagram.specs.Costs.{IsPriced}
 use Rattle.pc_diagram.specs.Fitting.{is_number}
 use Rattle.pc_diagram.specs.Levels.{Level, levels, edge}
 use Rattle.pc_diagram.specs.Paths.{accepts}
-use Rattle.pc_diagram.specs.Words.{all_words}
+use Rattle.pc_diagram.specs.Words.{is_word, all_words}
 
 -- the node that values lead to from a node of the first of these levels, if there are as many values as levels and an edge
 -- for each
@@ -52,6 +53,13 @@ comes_before [] [] = false
 comes_before [] (value ∷ word) = true
 comes_before (value ∷ word) [] = false
 comes_before (value ∷ word) (other ∷ others) = nat_lt value other || value == other && comes_before word others
+
+-- a word that passes a test, none that passes is cheaper, and none that passes and isn't dearer comes before it
+pub record IsLeast (costs : List (List CostPair)) (test : List ℕ → Bool) (domains word : List ℕ) : Type 0 where
+  pub over : is_word domains word ≡ true
+  pub passes : test word ≡ true
+  pub unbeaten : (other : List ℕ) → is_word domains other ≡ true → test other ≡ true → is_cheaper_word costs other word ≡ false
+  pub first : (other : List ℕ) → is_word domains other ≡ true → test other ≡ true → is_cheaper_word costs word other ≡ false → comes_before other word ≡ false
 
 -- the costs of a diagram's values: a pair for each, in range
 pub record AreCostsOf (domains : List ℕ) (costs : List (List CostPair)) : Type 0 where

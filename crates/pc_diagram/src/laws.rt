@@ -17,8 +17,9 @@ ghost use Rattle.pc_diagram.specs.Rests.{size};
 ghost use Rattle.pc_diagram.specs.Bike.{bike_costs, bikes, three, alloy, two_days, open_listing, two_days_listing, alloy_listing};
 
 pub use crate::diagram_laws::{
-    bikes_have_a_diagram, canonical_tables_have_no_fault, equal_words_have_one_diagram,
-    nodes_are_counted_by_rests, words_are_over_the_domains,
+    best_is_the_least_word, bikes_have_a_diagram, bikes_have_paths, canonical_tables_have_no_fault,
+    equal_words_have_one_diagram, heads_and_tails_make_words, nodes_are_counted_by_rests,
+    words_are_over_the_domains,
 };
 
 /// The worked example, by evaluation: what is listed of the bikes with no bound, of at most two days, and with the
