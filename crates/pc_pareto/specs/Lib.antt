@@ -1,0 +1,4 @@
+pub mod BikeFronts
+pub mod Front
+pub mod Items
+pub mod Lists

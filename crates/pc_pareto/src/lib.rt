@@ -1,0 +1,14 @@
+//! Fronts of pairs of costs: of all the words that lead to a node of a decision diagram, or from it, the pairs that no
+//! other pair beats in both costs. A node has exactly the front of the pairs of its words; a front that grows too large
+//! is refused exactly at its limit.
+#![tactic(auto)]
+
+mod back;
+mod front;
+mod front_item;
+pub mod laws;
+mod sweep;
+
+pub use back::Back;
+pub use front::Front;
+pub use front_item::FrontItem;
