@@ -12,7 +12,8 @@ use Rattle.pc_rules.specs.declared.token.Token.{Token}
 use Rattle.pc_rules.specs.declared.token.Token.TheVariants.{Mark, Word}
 use Rattle.pc_rules.specs.Outcome.{Outcome}
 use Rattle.pc_rules.specs.Token.{one_if_open, one_if_closed, is_deep_after, is_too_deep}
-use Rattle.pc_rules.specs.Words.{Reader, and_then, ◌>>=◌, ◌>>◌, pure, refused, same_sign, sees, sees_word, past, eat, eat_word, expect, word, variable, several_from, several, listed, row}
+use Rattle.pc_base.specs.Reader.{and_then, ◌>>=◌, ◌>>◌, pure}
+use Rattle.pc_rules.specs.Words.{TokenReader, refused, same_sign, sees, sees_word, past, eat, eat_word, expect, word, variable, several_from, several, listed, row}
 use Rattle.pc_rules.specs.Reading.{one_of, comparison, same, are_as_long, table, chained, joined, parenthesized, at_most, named, atom, negation, member, implication, rule_at, only, phrase_of}
 use Rattle.pc_rules.specs.Grammar.{parted, alone_word, IsFree, AreFree, AreRows, SpellsPhrase, SpellsPhrases}
 use Rattle.pc_rules.specs.Grammar as grammar
@@ -83,7 +84,7 @@ table-reads : (vs : List (List ℕ)) (rows : List (List (List ℕ))) (rest : Lis
 unfolding table expect sees same_sign
 table-reads vs rows rest many free some are fit =
     let after = parted (Mark Comma) (map (map Word) rows) ++ (Mark CloseBrace ∷ rest) in
-    let end : List (List ℕ) → List (List (List ℕ)) → Reader Phrase = λ these found. expect CloseBrace >> cond (are_as_long these found) (pure (phrase.Table these found)) refused in
+    let end : List (List ℕ) → List (List (List ℕ)) → TokenReader Phrase = λ these found. expect CloseBrace >> cond (are_as_long these found) (pure (phrase.Table these found)) refused in
     ap (λ o. and_then o (λ these. expect Close >> (expect OpenBrace >> (listed row >>= end these)))) (variables-read vs (Mark Close ∷ Mark OpenBrace ∷ after) many free refl)
     ∙ ap (λ o. and_then o (end vs)) (rows-read rows (Mark CloseBrace ∷ rest) some are (record { sign = CloseBrace; after = rest; is = refl }) refl)
     ∙ ap (λ b. (cond b (pure (phrase.Table vs rows)) refused) rest) fit
@@ -91,38 +92,38 @@ table-reads vs rows rest many free some are fit =
 -- ---- forms with rules inside
 
 -- a chain of one member
-several-one : (item : Reader Phrase) (joint : List ℕ) (p : Phrase) (ts rest : List Token) → 1 ≤ length ts → item ts ≡ Ok (p, rest) → sees_word joint rest ≡ false → several item (eat_word joint) ts ≡ Ok (p ∷ [], rest)
+several-one : (item : TokenReader Phrase) (joint : List ℕ) (p : Phrase) (ts rest : List Token) → 1 ≤ length ts → item ts ≡ Ok (p, rest) → sees_word joint rest ≡ false → several item (eat_word joint) ts ≡ Ok (p ∷ [], rest)
 unfolding several_from
 several-one item joint p [] rest many e end = absurd (omega arith)
 several-one item joint p (t ∷ ts) rest many e end =
-    let on : List Phrase → Reader (List Phrase) = several_from item (eat_word joint) (length ts) in
+    let on : List Phrase → TokenReader (List Phrase) = several_from item (eat_word joint) (length ts) in
     ap (λ o. and_then o (λ next. eat_word joint >>= λ more. cond more (on (next ∷ [])) (pure (next ∷ [])))) e
     ∙ ap (λ b. (cond b (on (p ∷ [])) (pure (p ∷ []))) (past b rest)) end
 
-joined-and : (item : Reader Phrase) (p : Phrase) (ts rest : List Token) → 1 ≤ length ts → item ts ≡ Ok (p, rest) → sees_word (codes "and") rest ≡ false → joined chain.And item ts ≡ Ok (p, rest)
+joined-and : (item : TokenReader Phrase) (p : Phrase) (ts rest : List Token) → 1 ≤ length ts → item ts ≡ Ok (p, rest) → sees_word (codes "and") rest ≡ false → joined chain.And item ts ≡ Ok (p, rest)
 unfolding joined
 joined-and item p ts rest many e end = ap (λ o. and_then o (λ members. pure (chained chain.And members))) (several-one item (codes "and") p ts rest many e end)
 
-joined-or : (item : Reader Phrase) (p : Phrase) (ts rest : List Token) → 1 ≤ length ts → item ts ≡ Ok (p, rest) → sees_word (codes "or") rest ≡ false → joined chain.Or item ts ≡ Ok (p, rest)
+joined-or : (item : TokenReader Phrase) (p : Phrase) (ts rest : List Token) → 1 ≤ length ts → item ts ≡ Ok (p, rest) → sees_word (codes "or") rest ≡ false → joined chain.Or item ts ≡ Ok (p, rest)
 unfolding joined
 joined-or item p ts rest many e end = ap (λ o. and_then o (λ members. pure (chained chain.Or members))) (several-one item (codes "or") p ts rest many e end)
 
-joined-all : (item : Reader Phrase) (p q : Phrase) (ps : List Phrase) (ts rest : List Token) → several item (eat_word (codes "and")) ts ≡ Ok (p ∷ q ∷ ps, rest) → joined chain.And item ts ≡ Ok (phrase.And (p ∷ q ∷ ps), rest)
+joined-all : (item : TokenReader Phrase) (p q : Phrase) (ps : List Phrase) (ts rest : List Token) → several item (eat_word (codes "and")) ts ≡ Ok (p ∷ q ∷ ps, rest) → joined chain.And item ts ≡ Ok (phrase.And (p ∷ q ∷ ps), rest)
 unfolding joined
 joined-all item p q ps ts rest e = ap (λ o. and_then o (λ members. pure (chained chain.And members))) e
 
-joined-any : (item : Reader Phrase) (p q : Phrase) (ps : List Phrase) (ts rest : List Token) → several item (eat_word (codes "or")) ts ≡ Ok (p ∷ q ∷ ps, rest) → joined chain.Or item ts ≡ Ok (phrase.Or (p ∷ q ∷ ps), rest)
+joined-any : (item : TokenReader Phrase) (p q : Phrase) (ps : List Phrase) (ts rest : List Token) → several item (eat_word (codes "or")) ts ≡ Ok (p ∷ q ∷ ps, rest) → joined chain.Or item ts ≡ Ok (phrase.Or (p ∷ q ∷ ps), rest)
 unfolding joined
 joined-any item p q ps ts rest e = ap (λ o. and_then o (λ members. pure (chained chain.Or members))) e
 
-module _ (rule : Reader Phrase) where
+module _ (rule : TokenReader Phrase) where
   named-other : (name : List ℕ) → IsFree name → (ts : List Token) → named rule name ts ≡ comparison name ts
   unfolding named
   named-other name free ts =
       let o = other name free in
-      let last : Reader Phrase = cond (is_reserved name) refused (comparison name) in
-      let third : Reader Phrase = cond (same_spelling name (codes "table")) table last in
-      let second : Reader Phrase = cond (same_spelling name (codes "atmost")) (at_most rule) third in
+      let last : TokenReader Phrase = cond (is_reserved name) refused (comparison name) in
+      let third : TokenReader Phrase = cond (same_spelling name (codes "table")) table last in
+      let second : TokenReader Phrase = cond (same_spelling name (codes "atmost")) (at_most rule) third in
       ap (λ b. (cond b same second) ts) o.no_same ∙ ap (λ b. (cond b (at_most rule) third) ts) o.no_at_most ∙ ap (λ b. (cond b table last) ts) o.no_table ∙ ap (λ b. (cond b refused (comparison name)) ts) free
 
   atom-word : (name : List ℕ) (ts : List Token) → atom rule (Word name ∷ ts) ≡ named rule name ts
@@ -185,7 +186,7 @@ module _ (rule : Reader Phrase) where
   implication-or : (p : Phrase) (ts rest : List Token) → joined chain.Or (member rule chain.Or) ts ≡ Ok (p, rest) → sees Arrow rest ≡ false → implication rule ts ≡ Ok (p, rest)
   unfolding implication
   implication-or p ts rest e end =
-      let conclude : Phrase → Reader Phrase = λ premise. joined chain.Or (member rule chain.Or) >>= λ conclusion. pure (phrase.Implies premise conclusion) in
+      let conclude : Phrase → TokenReader Phrase = λ premise. joined chain.Or (member rule chain.Or) >>= λ conclusion. pure (phrase.Implies premise conclusion) in
       ap (λ o. and_then o (λ premise. eat Arrow >>= λ found. cond found (conclude premise) (pure premise))) e
       ∙ ap (λ b. (cond b (conclude p) (pure p)) (past b rest)) end
 
@@ -193,12 +194,12 @@ module _ (rule : Reader Phrase) where
       implication rule ts ≡ Ok (phrase.Implies p q, rest)
   unfolding implication sees same_sign
   implication-implies p q ts us rest e f =
-      let conclude : Phrase → Reader Phrase = λ premise. joined chain.Or (member rule chain.Or) >>= λ conclusion. pure (phrase.Implies premise conclusion) in
+      let conclude : Phrase → TokenReader Phrase = λ premise. joined chain.Or (member rule chain.Or) >>= λ conclusion. pure (phrase.Implies premise conclusion) in
       ap (λ o. and_then o (λ premise. eat Arrow >>= λ found. cond found (conclude premise) (pure premise))) e
       ∙ ap (λ o. and_then o (λ conclusion. pure (phrase.Implies p conclusion))) f
 
   -- the reader of a place
-  abbrev reader_at : ℕ → Reader Phrase
+  abbrev reader_at : ℕ → TokenReader Phrase
   reader_at zero = implication rule
   reader_at (suc zero) = joined chain.Or (member rule chain.Or)
   reader_at (suc (suc zero)) = joined chain.And (member rule chain.And)
@@ -304,7 +305,7 @@ unfolding sees same_sign
 comma-stops rest = refl
 
 -- a chain that is read item by item
-and-read : (item : Reader Phrase) (ps : List Phrase) (texts : List (List Token)) (rest : List Token) → 2 ≤ length ps → EachRead item (eat_word (codes "and")) (Word (codes "and")) (Ends 3) ps texts → sees_word (codes "and") rest ≡ false →
+and-read : (item : TokenReader Phrase) (ps : List Phrase) (texts : List (List Token)) (rest : List Token) → 2 ≤ length ps → EachRead item (eat_word (codes "and")) (Word (codes "and")) (Ends 3) ps texts → sees_word (codes "and") rest ≡ false →
     joined chain.And item (parted (Word (codes "and")) texts ++ rest) ≡ Ok (phrase.And ps, rest)
 and-read item [] texts rest two each end = absurd (omega arith)
 and-read item (p ∷ []) texts rest two each end = absurd (omega arith)
@@ -314,7 +315,7 @@ and-read item (p ∷ q ∷ ps) (text ∷ texts) rest two (also first each) end =
     (several-reads item (eat_word (codes "and")) (Word (codes "and")) (Ends 3) (λ us. eat_word-takes (codes "and") us refl) (λ us. ends-high 3 (Word (codes "and") ∷ us) (omega arith)) p text (q ∷ ps) texts rest first each
     (ends-high 3 rest (omega arith)) (eat_word-stops (codes "and") rest end))
 
-or-read : (item : Reader Phrase) (ps : List Phrase) (texts : List (List Token)) (rest : List Token) → 2 ≤ length ps → EachRead item (eat_word (codes "or")) (Word (codes "or")) (Ends 2) ps texts → Ends 2 rest → sees_word (codes "or") rest ≡ false →
+or-read : (item : TokenReader Phrase) (ps : List Phrase) (texts : List (List Token)) (rest : List Token) → 2 ≤ length ps → EachRead item (eat_word (codes "or")) (Word (codes "or")) (Ends 2) ps texts → Ends 2 rest → sees_word (codes "or") rest ≡ false →
     joined chain.Or item (parted (Word (codes "or")) texts ++ rest) ≡ Ok (phrase.Or ps, rest)
 or-read item [] texts rest two each ends end = absurd (omega arith)
 or-read item (p ∷ []) texts rest two each ends end = absurd (omega arith)
@@ -323,7 +324,7 @@ or-read item (p ∷ q ∷ ps) (text ∷ texts) rest two (also first each) ends e
     joined-any item p q ps (parted (Word (codes "or")) (text ∷ texts) ++ rest) rest
     (several-reads item (eat_word (codes "or")) (Word (codes "or")) (Ends 2) (λ us. eat_word-takes (codes "or") us refl) ends-or p text (q ∷ ps) texts rest first each ends (eat_word-stops (codes "or") rest end))
 
-members-read : (item : Reader Phrase) (ps : List Phrase) (texts : List (List Token)) (rest : List Token) → 1 ≤ length ps → EachRead item (eat Comma) (Mark Comma) (Ends 0) ps texts →
+members-read : (item : TokenReader Phrase) (ps : List Phrase) (texts : List (List Token)) (rest : List Token) → 1 ≤ length ps → EachRead item (eat Comma) (Mark Comma) (Ends 0) ps texts →
     listed item (parted (Mark Comma) texts ++ Mark Close ∷ rest) ≡ Ok (ps, Mark Close ∷ rest)
 unfolding listed
 members-read item [] texts rest some each = absurd (omega arith)
@@ -401,7 +402,7 @@ module _ (limit : ℕ) where
         let whole = atom-word (rule_at depth) (codes "table") (Mark Open ∷ tail) ∙ named-table (rule_at depth) (Mark Open ∷ tail) ∙ ap (λ ts. table (Mark Open ∷ ts)) front ∙ table-reads vs rows rest some free some_rows are fit in
         from_atom (rule_at depth) (phrase.Table vs rows) (Word (codes "table") ∷ Mark Open ∷ tail) rest (omega arith) place whole ends
 
-    complete_each : {place : ℕ} {ps : List Phrase} {texts : List (List Token)} → SpellsPhrases place ps texts → (joint : Reader Bool) (between : Token) → one_if_open between ≡ 0 → one_if_closed between ≡ 0 →
+    complete_each : {place : ℕ} {ps : List Phrase} {texts : List (List Token)} → SpellsPhrases place ps texts → (joint : TokenReader Bool) (between : Token) → one_if_open between ≡ 0 → one_if_closed between ≡ 0 →
         (depth o c : ℕ) → depth + o ≡ c + limit → is_deep_after limit o c (parted between texts) ≡ false → EachRead (reader_at (rule_at depth) place) joint between (Ends place) ps texts
     complete_each (grammar.none place) joint between apart apart_too depth o c sum flat = nothing
     complete_each (grammar.more {place = place} {text = text} {texts = texts} s each) joint between apart apart_too depth o c sum flat =

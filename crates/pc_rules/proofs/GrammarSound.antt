@@ -10,7 +10,8 @@ use Rattle.pc_rules.specs.declared.token.Sign.TheVariants.{Arrow, NotEqual, Equa
 use Rattle.pc_rules.specs.declared.token.Token.{Token}
 use Rattle.pc_rules.specs.declared.token.Token.TheVariants.{Mark, Word}
 use Rattle.pc_rules.specs.Outcome.{Outcome}
-use Rattle.pc_rules.specs.Words.{Reader, ◌>>=◌, ◌>>◌, pure, refused, eat, eat_word, expect, word, variable, several, listed, row}
+use Rattle.pc_base.specs.Reader.{◌>>=◌, ◌>>◌, pure}
+use Rattle.pc_rules.specs.Words.{TokenReader, refused, eat, eat_word, expect, word, variable, several, listed, row}
 use Rattle.pc_rules.specs.Reading.{one_of, comparison, same, are_as_long, table, chained, joined, parenthesized, at_most, named, atom, negation, member, implication, rule_at, only, phrase_of}
 use Rattle.pc_rules.specs.Grammar.{parted, alone_word, IsFree, AreFree, AreRows, SpellsPhrase, SpellsPhrases}
 use Rattle.pc_rules.specs.Grammar as grammar
@@ -28,10 +29,10 @@ again place ts p q left rest e f =
 
 -- ---- what follows a variable's name
 
-abbrev one_of-end : List ℕ → List (List ℕ) → Reader Phrase
+abbrev one_of-end : List ℕ → List (List ℕ) → TokenReader Phrase
 one_of-end name values = expect CloseBrace >> pure (phrase.OneOf name values)
 
-abbrev one_of-inside : List ℕ → Reader Phrase
+abbrev one_of-inside : List ℕ → TokenReader Phrase
 one_of-inside name = expect OpenBrace >> (listed word >>= one_of-end name)
 
 one_of-took : (name : List ℕ) → IsFree name → (ts : List Token) (p : Phrase) (rest : List Token) → one_of name ts ≡ Ok (p, rest) → Front 4 (Word name ∷ ts) p rest
@@ -52,10 +53,10 @@ one_of-took name free ts p rest e = by (eat_word_or (codes "in") (one_of-inside 
           grammar.one_of 4 name list.0 free took.1,
         )
 
-abbrev is-end : List ℕ → Reader Phrase
+abbrev is-end : List ℕ → TokenReader Phrase
 is-end name = word >>= λ value. pure (phrase.Is name value)
 
-abbrev is_not-end : List ℕ → Reader Phrase
+abbrev is_not-end : List ℕ → TokenReader Phrase
 is_not-end name = word >>= λ value. pure (phrase.IsNot name value)
 
 comparison-took : (name : List ℕ) → IsFree name → (ts : List Token) (p : Phrase) (rest : List Token) → comparison name ts ≡ Ok (p, rest) → Front 4 (Word name ∷ ts) p rest
@@ -78,10 +79,10 @@ comparison-took name free ts p rest e = by (eat_or Equal (is-end name) (eat NotE
 
 -- ---- `same` and `table`
 
-abbrev same-end : List ℕ → List ℕ → Reader Phrase
+abbrev same-end : List ℕ → List ℕ → TokenReader Phrase
 same-end first second = expect Close >> pure (phrase.Same first second)
 
-abbrev same-second : List ℕ → Reader Phrase
+abbrev same-second : List ℕ → TokenReader Phrase
 same-second first = expect Comma >> (variable >>= same-end first)
 
 same-took : (ts : List Token) (p : Phrase) (rest : List Token) → same ts ≡ Ok (p, rest) → Front 4 (Word (codes "same") ∷ ts) p rest
@@ -98,10 +99,10 @@ same-took ts p rest e =
       grammar.same 4 v.0 w.0 v.3 w.3,
     )
 
-abbrev table-end : List (List ℕ) → List (List (List ℕ)) → Reader Phrase
+abbrev table-end : List (List ℕ) → List (List (List ℕ)) → TokenReader Phrase
 table-end variables rows = expect CloseBrace >> cond (are_as_long variables rows) (pure (phrase.Table variables rows)) refused
 
-abbrev table-rows : List (List ℕ) → Reader Phrase
+abbrev table-rows : List (List ℕ) → TokenReader Phrase
 table-rows variables = expect Close >> (expect OpenBrace >> (listed row >>= table-end variables))
 
 table-text : (variables rows ts inside left close brace more end : List Token) → ts ≡ Mark Open ∷ inside → inside ≡ variables ++ left → left ≡ Mark Close ∷ close →
@@ -179,10 +180,10 @@ disjunction_of first [] text (next ∷ texts) told each = elim each [ ]
 disjunction_of first (other ∷ others) text [] told each = elim each [ ]
 disjunction_of first (other ∷ others) text (next ∷ texts) told each = grammar.or (omega arith) (omega arith) (grammar.more told (each_spells 2 (other ∷ others) (next ∷ texts) each))
 
-abbrev Took : ℕ → Reader Phrase → Type 0
+abbrev Took : ℕ → TokenReader Phrase → Type 0
 Took place reader = (ts : List Token) (p : Phrase) (rest : List Token) → reader ts ≡ Ok (p, rest) → Front place ts p rest
 
-and-took : (item : Reader Phrase) → Took 3 item → Took 2 (joined chain.And item)
+and-took : (item : TokenReader Phrase) → Took 3 item → Took 2 (joined chain.And item)
 unfolding joined
 and-took item item-took ts p rest e =
     let s = then_ok (several item (eat_word (codes "and")) ts) (λ members. pure (chained chain.And members)) p rest e in
@@ -190,7 +191,7 @@ and-took item item-took ts p rest e =
     again 2 ts (chained chain.And s.0) p s.1 rest s.3
     (parted (Word (codes "and")) (l.text ∷ l.texts), l.took, subst (λ all. SpellsPhrase 2 (chained chain.And all) (parted (Word (codes "and")) (l.text ∷ l.texts))) (sym l.is) (conjunction_of l.first l.others l.text l.texts l.told l.each))
 
-or-took : (item : Reader Phrase) → Took 2 item → Took 1 (joined chain.Or item)
+or-took : (item : TokenReader Phrase) → Took 2 item → Took 1 (joined chain.Or item)
 unfolding joined
 or-took item item-took ts p rest e =
     let s = then_ok (several item (eat_word (codes "or")) ts) (λ members. pure (chained chain.Or members)) p rest e in
@@ -198,7 +199,7 @@ or-took item item-took ts p rest e =
     again 1 ts (chained chain.Or s.0) p s.1 rest s.3
     (parted (Word (codes "or")) (l.text ∷ l.texts), l.took, subst (λ all. SpellsPhrase 1 (chained chain.Or all) (parted (Word (codes "or")) (l.text ∷ l.texts))) (sym l.is) (disjunction_of l.first l.others l.text l.texts l.told l.each))
 
-module _ (rule : Reader Phrase) (rule-took : Took 0 rule) where
+module _ (rule : TokenReader Phrase) (rule-took : Took 0 rule) where
   parenthesized-took : (ts : List Token) (p : Phrase) (rest : List Token) → parenthesized rule ts ≡ Ok (p, rest) → Front 4 (Mark Open ∷ ts) p rest
   unfolding parenthesized
   parenthesized-took ts p rest e =
@@ -208,10 +209,10 @@ module _ (rule : Reader Phrase) (rule-took : Took 0 rule) where
       again 4 (Mark Open ∷ ts) s.0 p close.0 rest close.2
       (Mark Open ∷ inner.0 ++ Mark Close ∷ [], ap (λ r. Mark Open ∷ r) (inner.1 ∙ ap (λ r. inner.0 ++ r) close.1 ∙ sym (append_assoc inner.0 (Mark Close ∷ []) close.0)), grammar.parentheses 4 inner.2)
 
-  abbrev at_most-end : List ℕ → List Phrase → Reader Phrase
+  abbrev at_most-end : List ℕ → List Phrase → TokenReader Phrase
   at_most-end most members = expect Close >> pure (phrase.AtMost most members)
 
-  abbrev at_most-inside : List ℕ → Reader Phrase
+  abbrev at_most-inside : List ℕ → TokenReader Phrase
   at_most-inside most = expect Open >> (listed rule >>= at_most-end most)
 
   at_most-took : (ts : List Token) (p : Phrase) (rest : List Token) → at_most rule ts ≡ Ok (p, rest) → Front 4 (Word (codes "atmost") ∷ ts) p rest
@@ -234,13 +235,13 @@ module _ (rule : Reader Phrase) (rule-took : Took 0 rule) where
   unfolding named
   named-took name ts p rest e = by (branch_ok (same_spelling name (codes "same")) same not_same ts p rest e)
     where
-      free : Reader Phrase
+      free : TokenReader Phrase
       free = cond (is_reserved name) refused (comparison name)
 
-      not_at_most : Reader Phrase
+      not_at_most : TokenReader Phrase
       not_at_most = cond (same_spelling name (codes "table")) table free
 
-      not_same : Reader Phrase
+      not_same : TokenReader Phrase
       not_same = cond (same_spelling name (codes "atmost")) (at_most rule) not_at_most
 
       called : (text : List ℕ) → same_spelling name text ≡ true → Front 4 (Word text ∷ ts) p rest → Front 4 (Word name ∷ ts) p rest
@@ -285,10 +286,10 @@ module _ (rule : Reader Phrase) (rule-took : Took 0 rule) where
   unfolding member
   or_chain-took ts p rest e = or-took (joined chain.And (negation rule)) (and-took (negation rule) negation-took) ts p rest e
 
-  abbrev or_chain : Reader Phrase
+  abbrev or_chain : TokenReader Phrase
   or_chain = joined chain.Or (member rule chain.Or)
 
-  abbrev conclude : Phrase → Reader Phrase
+  abbrev conclude : Phrase → TokenReader Phrase
   conclude premise = or_chain >>= λ conclusion. pure (phrase.Implies premise conclusion)
 
   implication-took : Took 0 (implication rule)
@@ -298,7 +299,7 @@ module _ (rule : Reader Phrase) (rule-took : Took 0 rule) where
       let premise = or_chain-took ts a.0 a.1 a.2 in
       by a.0 a.1 premise (eat_or Arrow (conclude a.0) (pure a.0) a.1 p rest a.3)
     where
-      by : (q : Phrase) (left : List Token) → Front 1 ts q left → ((after : List Token) × (left ≡ Mark Arrow ∷ after) × (conclude q after ≡ Ok (p, rest))) ⊎ (pure q left ≡ Ok (p, rest)) → Front 0 ts p rest
+      by : (q : Phrase) (left : List Token) → Front 1 ts q left → ((after : List Token) × (left ≡ Mark Arrow ∷ after) × (conclude q after ≡ Ok (p, rest))) ⊎ (◌≡◌ {A = Outcome (Phrase × List Token)} (Ok (q, left)) (Ok (p, rest))) → Front 0 ts p rest
       by q left premise (inl s) =
           let b = then_ok (or_chain s.0) (λ conclusion. pure (phrase.Implies q conclusion)) p rest s.2 in
           let conclusion = or_chain-took s.0 b.0 b.1 b.2 in

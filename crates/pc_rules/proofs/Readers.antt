@@ -12,7 +12,8 @@ use Rattle.pc_rules.specs.declared.token.Sign.TheVariants.{Comma}
 use Rattle.pc_rules.specs.declared.token.Token.{Token}
 use Rattle.pc_rules.specs.declared.token.Token.TheVariants.{Mark, Word}
 use Rattle.pc_rules.specs.Outcome.{Outcome}
-use Rattle.pc_rules.specs.Words.{Reader, and_then, ◌>>=◌, ◌>>◌, pure, refused, same_sign, sees, sees_word, past, eat, eat_word, expect, word, variable, several_from, several, listed, words_at, some, row}
+use Rattle.pc_base.specs.Reader.{and_then, ◌>>=◌, ◌>>◌, pure}
+use Rattle.pc_rules.specs.Words.{TokenReader, refused, same_sign, sees, sees_word, past, eat, eat_word, expect, word, variable, several_from, several, listed, words_at, some, row}
 use Rattle.pc_rules.specs.Grammar.{parted, alone_word, IsFree, AreFree, AreRows}
 
 pub the_value : {A : Type 0} (x y : A) → ◌≡◌ {A = Outcome A} (Ok x) (Ok y) → x ≡ y
@@ -26,13 +27,13 @@ no_value : {A : Type 0} (kind : Kind) (x : A) → ◌≡◌ {A = Outcome A} (Err
 no_value kind x e = cc
 
 -- the value of two steps comes by one of the first
-pub then_ok : {A B : Type 0} (first : Outcome (A × List Token)) (next : A → Reader B) (y : B) (rest : List Token) → and_then first next ≡ Ok (y, rest) →
+pub then_ok : {A B : Type 0} (first : Outcome (A × List Token)) (next : A → TokenReader B) (y : B) (rest : List Token) → and_then first next ≡ Ok (y, rest) →
     (x : A) × (left : List Token) × (first ≡ Ok (x, left)) × (next x left ≡ Ok (y, rest))
 then_ok (Ok found) next y rest e = (found.0, found.1, refl, e)
 then_ok (Err kind) next y rest e = absurd (no_value kind (y, rest) e)
 
 -- which branch gave the value
-pub branch_ok : {A : Type 0} (b : Bool) (here there : Reader A) (ts : List Token) (y : A) (rest : List Token) → (cond b here there) ts ≡ Ok (y, rest) →
+pub branch_ok : {A : Type 0} (b : Bool) (here there : TokenReader A) (ts : List Token) (y : A) (rest : List Token) → (cond b here there) ts ≡ Ok (y, rest) →
     ((b ≡ true) × (here ts ≡ Ok (y, rest))) ⊎ ((b ≡ false) × (there ts ≡ Ok (y, rest)))
 branch_ok true here there ts y rest e = inl (refl, e)
 branch_ok false here there ts y rest e = inr (refl, e)
@@ -126,7 +127,7 @@ pub record Listed {A : Type 0} (P : A → List Token → Type 0) (between : Toke
   pub told : P first text
   pub each : EachBy P others texts
 
-module _ {A : Type 0} (P : A → List Token → Type 0) (item : Reader A) (joint : Reader Bool) (between : Token)
+module _ {A : Type 0} (P : A → List Token → Type 0) (item : TokenReader A) (joint : TokenReader Bool) (between : Token)
     (item-took : (ts : List Token) (x : A) (rest : List Token) → item ts ≡ Ok (x, rest) → (text : List Token) × (ts ≡ text ++ rest) × P x text)
     (joint-took : (ts rest : List Token) → joint ts ≡ Ok (true, rest) → ts ≡ between ∷ rest)
     (joint-left : (ts rest : List Token) → joint ts ≡ Ok (false, rest) → rest ≡ ts) where
@@ -172,7 +173,7 @@ module _ {A : Type 0} (P : A → List Token → Type 0) (item : Reader A) (joint
 
 -- ---- one step, and the rest of the reading
 
-pub eat_or : {A : Type 0} (sign : Sign) (here there : Reader A) (ts : List Token) (y : A) (rest : List Token) → (eat sign >>= λ found. cond found here there) ts ≡ Ok (y, rest) →
+pub eat_or : {A : Type 0} (sign : Sign) (here there : TokenReader A) (ts : List Token) (y : A) (rest : List Token) → (eat sign >>= λ found. cond found here there) ts ≡ Ok (y, rest) →
     ((left : List Token) × (ts ≡ Mark sign ∷ left) × (here left ≡ Ok (y, rest))) ⊎ (there ts ≡ Ok (y, rest))
 eat_or sign here there ts y rest e = by (sees sign ts) refl e
   where
@@ -180,7 +181,7 @@ eat_or sign here there ts y rest e = by (sees sign ts) refl e
     by true seen e = inl (drop 1 ts, sees-true sign ts seen, e)
     by false seen e = inr e
 
-pub eat_word_or : {A : Type 0} (text : List ℕ) (here there : Reader A) (ts : List Token) (y : A) (rest : List Token) → (eat_word text >>= λ found. cond found here there) ts ≡ Ok (y, rest) →
+pub eat_word_or : {A : Type 0} (text : List ℕ) (here there : TokenReader A) (ts : List Token) (y : A) (rest : List Token) → (eat_word text >>= λ found. cond found here there) ts ≡ Ok (y, rest) →
     ((left : List Token) × (ts ≡ Word text ∷ left) × (here left ≡ Ok (y, rest))) ⊎ (there ts ≡ Ok (y, rest))
 eat_word_or text here there ts y rest e = by (sees_word text ts) refl e
   where
@@ -188,15 +189,15 @@ eat_word_or text here there ts y rest e = by (sees_word text ts) refl e
     by true seen e = inl (drop 1 ts, sees_word-true text ts seen, e)
     by false seen e = inr e
 
-pub after_expected : {A : Type 0} (sign : Sign) (next : Reader A) (ts : List Token) (y : A) (rest : List Token) → (expect sign >> next) ts ≡ Ok (y, rest) →
+pub after_expected : {A : Type 0} (sign : Sign) (next : TokenReader A) (ts : List Token) (y : A) (rest : List Token) → (expect sign >> next) ts ≡ Ok (y, rest) →
     (left : List Token) × (ts ≡ Mark sign ∷ left) × (next left ≡ Ok (y, rest))
 after_expected sign next ts y rest e = let s = then_ok (expect sign ts) (λ _. next) y rest e in (s.1, expect-took sign s.0 ts s.1 s.2, s.3)
 
-pub with_word : {A : Type 0} (next : List ℕ → Reader A) (ts : List Token) (y : A) (rest : List Token) → (word >>= next) ts ≡ Ok (y, rest) →
+pub with_word : {A : Type 0} (next : List ℕ → TokenReader A) (ts : List Token) (y : A) (rest : List Token) → (word >>= next) ts ≡ Ok (y, rest) →
     (text : List ℕ) × (left : List Token) × (ts ≡ Word text ∷ left) × (next text left ≡ Ok (y, rest))
 with_word next ts y rest e = let s = then_ok (word ts) next y rest e in (s.0, s.1, word-took s.0 ts s.1 s.2, s.3)
 
-pub with_variable : {A : Type 0} (next : List ℕ → Reader A) (ts : List Token) (y : A) (rest : List Token) → (variable >>= next) ts ≡ Ok (y, rest) →
+pub with_variable : {A : Type 0} (next : List ℕ → TokenReader A) (ts : List Token) (y : A) (rest : List Token) → (variable >>= next) ts ≡ Ok (y, rest) →
     (text : List ℕ) × (left : List Token) × (ts ≡ Word text ∷ left) × IsFree text × (next text left ≡ Ok (y, rest))
 with_variable next ts y rest e = let s = then_ok (variable ts) next y rest e in let v = variable-took s.0 ts s.1 s.2 in (s.0, s.1, v.0, v.1, s.3)
 
@@ -227,7 +228,7 @@ one_variable ts found rest e = let v = variable-took found ts rest e in (alone_w
 
 -- ---- lists with commas
 
-pub listed-took : {A : Type 0} (P : A → List Token → Type 0) (item : Reader A) →
+pub listed-took : {A : Type 0} (P : A → List Token → Type 0) (item : TokenReader A) →
     ((ts : List Token) (x : A) (rest : List Token) → item ts ≡ Ok (x, rest) → (text : List Token) × (ts ≡ text ++ rest) × P x text) →
     (all : List A) (ts rest : List Token) → listed item ts ≡ Ok (all, rest) → Listed P (Mark Comma) [] all ts rest
 unfolding listed

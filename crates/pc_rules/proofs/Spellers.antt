@@ -7,10 +7,11 @@ use Rattle.pc_rules.specs.declared.token.Sign.{Sign}
 use Rattle.pc_rules.specs.declared.token.Sign.TheVariants.{Comma}
 use Rattle.pc_rules.specs.declared.token.Token.{Token}
 use Rattle.pc_rules.specs.declared.token.Token.TheVariants.{Mark, Word}
-use Rattle.pc_rules.specs.Words.{Reader, and_then, ◌>>=◌, pure, refused, same_sign, sees, past, eat, expect, word, variable, several_from, several, listed, words_at, some, row}
+use Rattle.pc_base.specs.Reader.{and_then, ◌>>=◌, pure}
+use Rattle.pc_rules.specs.Words.{TokenReader, refused, same_sign, sees, past, eat, expect, word, variable, several_from, several, listed, words_at, some, row}
 use Rattle.pc_rules.specs.Grammar.{parted, alone_word, IsFree, AreFree, AreRows}
 
-module _ {A : Type 0} (item : Reader A) (joint : Reader Bool) (between : Token) (Follows : List Token → Type 0) where
+module _ {A : Type 0} (item : TokenReader A) (joint : TokenReader Bool) (between : Token) (Follows : List Token → Type 0) where
   -- the item reads this of the text, whatever follows
   pub record Reads (x : A) (text : List Token) : Type 0 where
     pub some : 1 ≤ length text
@@ -20,7 +21,7 @@ module _ {A : Type 0} (item : Reader A) (joint : Reader Bool) (between : Token) 
     nothing : EachRead [] []
     also : {x : A} {text : List Token} {xs : List A} {texts : List (List Token)} → Reads x text → EachRead xs texts → EachRead (x ∷ xs) (text ∷ texts)
 
-module _ {A : Type 0} (item : Reader A) (joint : Reader Bool) (between : Token) (Follows : List Token → Type 0)
+module _ {A : Type 0} (item : TokenReader A) (joint : TokenReader Bool) (between : Token) (Follows : List Token → Type 0)
     (takes : (us : List Token) → joint (between ∷ us) ≡ Ok (true, us)) (follows : (us : List Token) → Follows (between ∷ us)) where
   several_from-reads : (turns : ℕ) (found : List A) (x : A) (text : List Token) (xs : List A) (texts : List (List Token)) (rest : List Token) → Reads item joint between Follows x text → EachRead item joint between Follows xs texts →
       suc (length texts) ≤ turns → Follows rest → joint rest ≡ Ok (false, rest) → several_from item joint turns found (parted between (text ∷ texts) ++ rest) ≡ Ok (found ++ x ∷ xs, rest)

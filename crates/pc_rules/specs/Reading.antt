@@ -12,12 +12,13 @@ use Rattle.pc_rules.specs.declared.phrase.Phrase.TheVariants as phrase
 use Rattle.pc_rules.specs.declared.token.Sign.TheVariants.{Arrow, NotEqual, Equal, Open, Close, OpenBrace, CloseBrace, Comma}
 use Rattle.pc_rules.specs.declared.token.Token.{Token}
 use Rattle.pc_rules.specs.Outcome.{Outcome}
-use Rattle.pc_rules.specs.Words.{Reader, ◌>>=◌, ◌>>◌, pure, refused, eat, eat_word, expect, word, variable, several, listed, row}
+use Rattle.pc_base.specs.Reader.{◌>>=◌, ◌>>◌, pure}
+use Rattle.pc_rules.specs.Words.{TokenReader, refused, eat, eat_word, expect, word, variable, several, listed, row}
 
 -- ---- forms without a rule inside
 
 -- after `v`, where neither sign comes
-unfoldable pub one_of : List ℕ → Reader Phrase
+unfoldable pub one_of : List ℕ → TokenReader Phrase
 one_of name = do
   is_in ← eat_word (codes "in")
   if is_in then (do
@@ -27,7 +28,7 @@ one_of name = do
     pure (phrase.OneOf name values)) else refused
 
 -- after `v`
-unfoldable pub comparison : List ℕ → Reader Phrase
+unfoldable pub comparison : List ℕ → TokenReader Phrase
 comparison name = do
   is_equal ← eat Equal
   if is_equal then (do value ← word; pure (phrase.Is name value)) else (do
@@ -35,7 +36,7 @@ comparison name = do
     if is_not_equal then (do value ← word; pure (phrase.IsNot name value)) else one_of name)
 
 -- after `same`
-unfoldable pub same : Reader Phrase
+unfoldable pub same : TokenReader Phrase
 same = do
   expect Open
   first ← variable
@@ -49,7 +50,7 @@ abbrev pub are_as_long : List (List ℕ) → List (List (List ℕ)) → Bool
 are_as_long variables rows = list_all (λ row. length row == length variables) rows
 
 -- after `table`
-unfoldable pub table : Reader Phrase
+unfoldable pub table : TokenReader Phrase
 table = do
   expect Open
   variables ← listed variable
@@ -74,23 +75,23 @@ joint chain.And = codes "and"
 joint chain.Or = codes "or"
 
 -- a chain without parentheses
-unfoldable pub joined : Chain → Reader Phrase → Reader Phrase
+unfoldable pub joined : Chain → TokenReader Phrase → TokenReader Phrase
 joined kind member = do
   members ← several member (eat_word (joint kind))
   pure (chained kind members)
 
 -- ---- forms with rules inside, as they nest in parentheses
 
-module _ (rule : Reader Phrase) where
+module _ (rule : TokenReader Phrase) where
   -- after `(`
-  unfoldable pub parenthesized : Reader Phrase
+  unfoldable pub parenthesized : TokenReader Phrase
   parenthesized = do
     inner ← rule
     expect Close
     pure inner
 
   -- after `atmost`
-  unfoldable pub at_most : Reader Phrase
+  unfoldable pub at_most : TokenReader Phrase
   at_most = do
     most ← word
     expect Open
@@ -99,7 +100,7 @@ module _ (rule : Reader Phrase) where
     pure (phrase.AtMost most members)
 
   -- after a word
-  unfoldable pub named : List ℕ → Reader Phrase
+  unfoldable pub named : List ℕ → TokenReader Phrase
   named name =
       if same_spelling name (codes "same") then same
       else (if same_spelling name (codes "atmost") then at_most
@@ -107,28 +108,28 @@ module _ (rule : Reader Phrase) where
       else (if is_reserved name then refused
       else comparison name)))
 
-  unfoldable pub atom : Reader Phrase
+  unfoldable pub atom : TokenReader Phrase
   atom = do
     is_open ← eat Open
     if is_open then parenthesized else word >>= named
 
-  unfoldable pub negation : Reader Phrase
+  unfoldable pub negation : TokenReader Phrase
   negation = do
     is_not ← eat_word (codes "not")
     if is_not then (do inner ← atom; pure (phrase.Not inner)) else atom
 
-  unfoldable pub member : Chain → Reader Phrase
+  unfoldable pub member : Chain → TokenReader Phrase
   member chain.And = negation
   member chain.Or = joined chain.And negation
 
-  unfoldable pub implication : Reader Phrase
+  unfoldable pub implication : TokenReader Phrase
   implication = do
     premise ← joined chain.Or (member chain.Or)
     is_premise ← eat Arrow
     if is_premise then (do conclusion ← joined chain.Or (member chain.Or); pure (phrase.Implies premise conclusion)) else pure premise
 
 -- with parentheses nested less deep than the number
-unfoldable pub rule_at : ℕ → Reader Phrase
+unfoldable pub rule_at : ℕ → TokenReader Phrase
 rule_at zero = refused
 rule_at (suc depth) = implication (rule_at depth)
 
