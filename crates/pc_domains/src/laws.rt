@@ -1,0 +1,51 @@
+//! Laws of the definitions. Each function's contract is a law; nothing calls them.
+
+ghost use Rattle.std.specs.Prelude.{◌≡◌, ℕ, List, Option, Some, None, true, false};
+ghost use Rattle.pc_diagram.specs.declared.bounds.Bounds.{Bounds};
+ghost use Rattle.pc_diagram.specs.declared.choice.Choice.{Choice};
+ghost use Rattle.pc_diagram.specs.declared.costs.CostPair.{CostPair};
+ghost use Rattle.pc_diagram.specs.declared.raw_diagram.RawDiagram.{RawDiagram};
+ghost use Rattle.pc_diagram.specs.Choices.{value_of};
+ghost use Rattle.pc_diagram.specs.Listing.{listed};
+ghost use Rattle.pc_diagram.specs.NodePaths.{is_allowed};
+ghost use Rattle.pc_domains.specs.Orders.{IsAtMost, IsNoDearer};
+ghost use Rattle.pc_domains.specs.Sides.{AreSides, IsAllowedWay, IsAsked, IsLeastWay, listed_of};
+ghost use Rattle.pc_domains.specs.Ways.{Kept, Way, joined_word};
+
+/// Where the cheapest paths are kept on either side of a variable, and the second cost has no bound, what is listed of a
+/// value is the word of the least way through an edge of it; and nothing, where the bounds allow no way.
+pub fn cheapest_paths_tell_what_is_listed()
+    ensures listed { (raw : RawDiagram) (costs : List (List CostPair)) (choices : List Choice) (bounds : Bounds) (variable value : ℕ)
+        (heads tails : ℕ → ℕ → Option Kept) (way : Way raw variable value heads tails)
+        → IsAsked raw costs choices variable value → bounds.second ≡ None → AreSides IsNoDearer raw costs choices variable heads tails
+        → is_allowed (value_of choices variable) value ≡ true → IsLeastWay raw costs bounds variable value heads tails way
+        → listed_of raw costs choices bounds variable value ≡ Some (listed costs value (joined_word value way.head way.tail)) }
+    ensures unlisted { (raw : RawDiagram) (costs : List (List CostPair)) (choices : List Choice) (bounds : Bounds) (variable value : ℕ)
+        (heads tails : ℕ → ℕ → Option Kept)
+        → IsAsked raw costs choices variable value → bounds.second ≡ None → AreSides IsNoDearer raw costs choices variable heads tails
+        → is_allowed (value_of choices variable) value ≡ true
+        → ((way : Way raw variable value heads tails) → IsAllowedWay costs bounds way → ⊥)
+        → listed_of raw costs choices bounds variable value ≡ None }
+{}
+
+/// The same with the fronts of the paths on either side, whatever the bounds are.
+pub fn fronts_tell_what_is_listed()
+    ensures listed { (raw : RawDiagram) (costs : List (List CostPair)) (choices : List Choice) (bounds : Bounds) (variable value : ℕ)
+        (heads tails : ℕ → ℕ → Option Kept) (way : Way raw variable value heads tails)
+        → IsAsked raw costs choices variable value → AreSides IsAtMost raw costs choices variable heads tails
+        → is_allowed (value_of choices variable) value ≡ true → IsLeastWay raw costs bounds variable value heads tails way
+        → listed_of raw costs choices bounds variable value ≡ Some (listed costs value (joined_word value way.head way.tail)) }
+    ensures unlisted { (raw : RawDiagram) (costs : List (List CostPair)) (choices : List Choice) (bounds : Bounds) (variable value : ℕ)
+        (heads tails : ℕ → ℕ → Option Kept)
+        → IsAsked raw costs choices variable value → AreSides IsAtMost raw costs choices variable heads tails
+        → is_allowed (value_of choices variable) value ≡ true
+        → ((way : Way raw variable value heads tails) → IsAllowedWay costs bounds way → ⊥)
+        → listed_of raw costs choices bounds variable value ≡ None }
+{}
+
+/// A value that the choices don't allow isn't listed.
+pub fn other_values_than_the_chosen_are_unlisted()
+    ensures { (raw : RawDiagram) (costs : List (List CostPair)) (choices : List Choice) (bounds : Bounds) (variable value : ℕ)
+        → IsAsked raw costs choices variable value → is_allowed (value_of choices variable) value ≡ false
+        → listed_of raw costs choices bounds variable value ≡ None }
+{}
