@@ -1,4 +1,5 @@
 pub mod AgreeLemmas
+pub mod FitLemmas
 pub mod ItemLemmas
 pub mod ListedLemmas
 pub mod OrderLemmas

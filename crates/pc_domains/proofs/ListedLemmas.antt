@@ -21,7 +21,7 @@ use Rattle.pc_domains.proofs.WayLemmas.{AddsUp, IsDownward, least_way, no_way}
 module _ (raw : RawDiagram) (costs : List (List CostPair)) (choices : List Choice) (bounds : Bounds) (variable value : ℕ) (asked : IsAsked raw costs choices variable value) where
   -- a value that the choices don't allow isn't listed
   pub other_chosen : is_allowed (value_of choices variable) value ≡ false → listed_of raw costs choices bounds variable value ≡ None
-  other_chosen no_choice = none_listed raw choices costs bounds asked.distinct asked.choices_of variable value none
+  other_chosen no_choice = none_listed raw choices costs bounds asked.choices_of.distinct asked.choices_of.choices_of variable value none
     where
       none : (word : List ℕ) → is_word raw.domains word ≡ true → ((is_open raw choices word && takes word variable value) && within costs word bounds) ≡ false
       none word over = by (is_open raw choices word && takes word variable value) refl
@@ -38,11 +38,11 @@ module _ (raw : RawDiagram) (costs : List (List CostPair)) (choices : List Choic
     -- the word of the least way is listed
     pub least_listed : (way : Way raw variable value heads tails) → IsLeastWay raw costs bounds variable value heads tails way → listed_of raw costs choices bounds variable value ≡ Some (listed costs value (joined_word value way.head way.tail))
     least_listed way least =
-        listed_least raw choices costs bounds asked.distinct asked.choices_of variable value (joined_word value way.head way.tail)
+        listed_least raw choices costs bounds asked.choices_of.distinct asked.choices_of.choices_of variable value (joined_word value way.head way.tail)
         (least_way no_more order (allows_pair bounds) downward raw asked.canonical choices costs asked.costs_of variable value asked.variable_inside asked.value_inside allowed heads tails sides.before sides.after way least.allowed least.least)
 
     -- where the bounds allow no way, the value isn't listed
     pub none_allowed : ((way : Way raw variable value heads tails) → IsAllowedWay costs bounds way → ⊥) → listed_of raw costs choices bounds variable value ≡ None
     none_allowed none =
-        none_listed raw choices costs bounds asked.distinct asked.choices_of variable value
+        none_listed raw choices costs bounds asked.choices_of.distinct asked.choices_of.choices_of variable value
         (no_way no_more order (allows_pair bounds) downward raw asked.canonical choices costs asked.costs_of variable value asked.variable_inside asked.value_inside allowed heads tails sides.before sides.after none)

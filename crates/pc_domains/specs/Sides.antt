@@ -15,12 +15,16 @@ use Rattle.pc_diagram.specs.NodePaths.{AreChoicesOf, AreCostsOf, is_head, is_tai
 use Rattle.pc_diagram.specs.Paths.{words}
 use Rattle.pc_domains.specs.Ways.{Keeps, Kept, Way, is_less_join, joined_pair}
 
+-- distinct choices of a diagram's values
+pub record AreDistinctOf (domains : List ℕ) (choices : List Choice) : Type 0 where
+  pub distinct : IsTrue (are_distinct choices)
+  pub choices_of : AreChoicesOf domains choices
+
 -- a value of a diagram's variable, with costs and choices of the diagram's values
 pub record IsAsked (raw : RawDiagram) (costs : List (List CostPair)) (choices : List Choice) (variable value : ℕ) : Type 0 where
   pub canonical : IsCanonical raw
   pub costs_of : AreCostsOf raw.domains costs
-  pub distinct : IsTrue (are_distinct choices)
-  pub choices_of : AreChoicesOf raw.domains choices
+  pub choices_of : AreDistinctOf raw.domains choices
   pub variable_inside : variable < length raw.domains
   pub value_inside : value < slice_index raw.domains variable
 

@@ -1,16 +1,19 @@
 //! Laws of the definitions. Each function's contract is a law; nothing calls them.
 
-ghost use Rattle.std.specs.Prelude.{◌≡◌, ℕ, List, Option, Some, None, true, false};
+ghost use Rattle.std.specs.Prelude.{◌≡◌, ℕ, List, [], Contains, Option, Some, None, true, false};
 ghost use Rattle.pc_diagram.specs.declared.bounds.Bounds.{Bounds};
 ghost use Rattle.pc_diagram.specs.declared.choice.Choice.{Choice};
 ghost use Rattle.pc_diagram.specs.declared.costs.CostPair.{CostPair};
 ghost use Rattle.pc_diagram.specs.declared.raw_diagram.RawDiagram.{RawDiagram};
+ghost use Rattle.pc_diagram.specs.Bounds.{allows_pair};
 ghost use Rattle.pc_diagram.specs.Choices.{value_of};
+ghost use Rattle.pc_diagram.specs.Fitting.{fitting};
 ghost use Rattle.pc_diagram.specs.Listing.{listed};
-ghost use Rattle.pc_diagram.specs.NodePaths.{is_allowed};
+ghost use Rattle.pc_diagram.specs.NodePaths.{is_allowed, is_tail};
+ghost use Rattle.pc_diagram.specs.Paths.{words};
 ghost use Rattle.pc_domains.specs.Orders.{IsAtMost, IsNoDearer};
-ghost use Rattle.pc_domains.specs.Sides.{AreSides, IsAllowedWay, IsAsked, IsLeastWay, listed_of};
-ghost use Rattle.pc_domains.specs.Ways.{Kept, Way, joined_word};
+ghost use Rattle.pc_domains.specs.Sides.{AreDistinctOf, AreSides, IsAllowedWay, IsAsked, IsLeastWay, listed_of};
+ghost use Rattle.pc_domains.specs.Ways.{Keeps, Kept, Way, joined_word};
 
 /// Where the cheapest paths are kept on either side of a variable, and the second cost has no bound, what is listed of a
 /// value is the word of the least way through an edge of it; and nothing, where the bounds allow no way.
@@ -48,4 +51,29 @@ pub fn other_values_than_the_chosen_are_unlisted()
     ensures { (raw : RawDiagram) (costs : List (List CostPair)) (choices : List Choice) (bounds : Bounds) (variable value : ℕ)
         → IsAsked raw costs choices variable value → is_allowed (value_of choices variable) value ≡ false
         → listed_of raw costs choices bounds variable value ≡ None }
+{}
+
+/// Some word fits exactly where the bounds allow the costs of a path that is kept of the root: its cheapest path, where only
+/// the first cost has a bound.
+pub fn cheapest_path_tells_whether_a_word_fits()
+    ensures fits { (raw : RawDiagram) (costs : List (List CostPair)) (choices : List Choice) (bounds : Bounds) (kept : ℕ → ℕ → Option Kept) (place : ℕ) (path : Kept)
+        → AreDistinctOf raw.domains choices → bounds.second ≡ None → Keeps IsNoDearer costs (is_tail raw choices 0) raw.domains 1 kept
+        → kept 0 place ≡ Some path → allows_pair bounds path.pair ≡ true
+        → Contains (fitting costs (words raw) choices bounds) path.path }
+    ensures none { (raw : RawDiagram) (costs : List (List CostPair)) (choices : List Choice) (bounds : Bounds) (kept : ℕ → ℕ → Option Kept)
+        → AreDistinctOf raw.domains choices → bounds.second ≡ None → Keeps IsNoDearer costs (is_tail raw choices 0) raw.domains 1 kept
+        → ((place : ℕ) (path : Kept) → kept 0 place ≡ Some path → allows_pair bounds path.pair ≡ false)
+        → fitting costs (words raw) choices bounds ≡ [] }
+{}
+
+/// The same by the front of the root's paths, whatever the bounds are.
+pub fn front_tells_whether_a_word_fits()
+    ensures fits { (raw : RawDiagram) (costs : List (List CostPair)) (choices : List Choice) (bounds : Bounds) (kept : ℕ → ℕ → Option Kept) (place : ℕ) (path : Kept)
+        → AreDistinctOf raw.domains choices → Keeps IsAtMost costs (is_tail raw choices 0) raw.domains 1 kept
+        → kept 0 place ≡ Some path → allows_pair bounds path.pair ≡ true
+        → Contains (fitting costs (words raw) choices bounds) path.path }
+    ensures none { (raw : RawDiagram) (costs : List (List CostPair)) (choices : List Choice) (bounds : Bounds) (kept : ℕ → ℕ → Option Kept)
+        → AreDistinctOf raw.domains choices → Keeps IsAtMost costs (is_tail raw choices 0) raw.domains 1 kept
+        → ((place : ℕ) (path : Kept) → kept 0 place ≡ Some path → allows_pair bounds path.pair ≡ false)
+        → fitting costs (words raw) choices bounds ≡ [] }
 {}
