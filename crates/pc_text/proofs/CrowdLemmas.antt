@@ -1,13 +1,14 @@
 -- How many words there are, and where they become too many.
 use Rattle.std.proofs.Common.{◌≡◌, ℕ, ◌+◌, ◌*◌, ◌<◌, ◌≤◌, Bool, true, false, true≢false, nat_lt, cond, List, [], ◌∷◌, ◌++◌, length, Option, Some, None, IsSome, refl, sym, ap, ◌∙◌, arith}
 use Rattle.std.proofs.lemmas.Bool.Decides.{nat_tests}
+use Rattle.std.specs.Option.{option_or}
 use Rattle.pc_base.specs.Lines.{first_line, after_line, lines}
 use Rattle.pc_base.proofs.LineCuts.{lines-first, lines-nil}
 use Rattle.pc_file.specs.declared.variable.Variable.{Variable}
 use Rattle.pc_file.specs.Products.{value_counts, word_count}
 use Rattle.pc_text.specs.Given.{Given, nothing_given}
 use Rattle.pc_text.specs.FirstFault.{give_line, given_from, given_by}
-use Rattle.pc_text.specs.Crowded.{is_crowded, crowded_from, crowded_line, words_before, or_first}
+use Rattle.pc_text.specs.Crowded.{is_crowded, crowded_from, crowded_line, words_before}
 
 pub before : (closed later : List Variable) → words_before (value_counts closed) (word_count (value_counts later)) ≡ word_count (value_counts (closed ++ later))
 before [] later = refl
@@ -38,21 +39,21 @@ crowded_end given number rest empty = ap (λ r. crowded_from given number (lines
 
 -- a line is read: what was first stays first
 pub crowded_more : (crowded : Option ℕ) (given next : Given) (number : ℕ) (rest : List ℕ) (whole : Option ℕ) → 0 < length rest → next ≡ give_line given (first_line rest) →
-    or_first crowded (crowded_from given number (lines rest)) ≡ whole →
-    or_first (or_first crowded (cond (is_crowded next) (Some number) None)) (crowded_from next (number + 1) (lines (after_line rest))) ≡ whole
+    option_or crowded (crowded_from given number (lines rest)) ≡ whole →
+    option_or (option_or crowded (cond (is_crowded next) (Some number) None)) (crowded_from next (number + 1) (lines (after_line rest))) ≡ whole
 crowded_more crowded given next number rest whole some is read =
     by crowded (is_crowded next) number (crowded_from next (number + 1) (lines (after_line rest)))
-    ∙ ap (or_first crowded) (rw is (sym (crowded_step given number rest some))) ∙ read
+    ∙ ap (option_or crowded) (rw is (sym (crowded_step given number rest some))) ∙ read
   where
-    by : (crowded : Option ℕ) (b : Bool) (here : ℕ) (later : Option ℕ) → or_first (or_first crowded (cond b (Some here) None)) later ≡ or_first crowded (cond b (Some here) later)
+    by : (crowded : Option ℕ) (b : Bool) (here : ℕ) (later : Option ℕ) → option_or (option_or crowded (cond b (Some here) None)) later ≡ option_or crowded (cond b (Some here) later)
     by (Some line) b here later = refl
     by None true here later = refl
     by None false here later = refl
 
-pub crowded_all : (crowded : Option ℕ) (given : Given) (number : ℕ) (rest : List ℕ) (whole : Option ℕ) → rest ≡ [] → or_first crowded (crowded_from given number (lines rest)) ≡ whole → crowded ≡ whole
-crowded_all crowded given number rest whole empty read = by crowded ∙ ap (or_first crowded) (sym (crowded_end given number rest empty)) ∙ read
+pub crowded_all : (crowded : Option ℕ) (given : Given) (number : ℕ) (rest : List ℕ) (whole : Option ℕ) → rest ≡ [] → option_or crowded (crowded_from given number (lines rest)) ≡ whole → crowded ≡ whole
+crowded_all crowded given number rest whole empty read = by crowded ∙ ap (option_or crowded) (sym (crowded_end given number rest empty)) ∙ read
   where
-    by : (crowded : Option ℕ) → crowded ≡ or_first crowded None
+    by : (crowded : Option ℕ) → crowded ≡ option_or crowded None
     by (Some line) = refl
     by None = refl
 

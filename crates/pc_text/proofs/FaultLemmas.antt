@@ -1,12 +1,12 @@
 -- The first fault, line by line.
 use Rattle.std.proofs.Common.{◌≡◌, ℕ, ◌+◌, ◌-◌, ◌<◌, ◌≤◌, true, false, ◌⊎◌, min, List, [], ◌∷◌, ◌++◌, length, drop, Some, None, refl, sym, ap, ◌∙◌, inl, inr, arith, length-append}
+use Rattle.std.specs.Option.{option_or}
 use Rattle.pc_base.specs.Lines.{first_line, after_line, lines}
 use Rattle.pc_base.proofs.LineCuts.{Cut, none, feed, cut, first_line-whole, from_feed-none, first_line-at_feed, from_feed-at_feed, lines-first, lines-nil}
 use Rattle.pc_rules.specs.declared.kind.Kind.{Kind}
 use Rattle.pc_rules.specs.declared.kind.Kind.TheVariants.{Size}
 use Rattle.pc_text.specs.Given.{Given}
-use Rattle.pc_text.specs.Orders.{or_else}
-use Rattle.pc_text.specs.FirstFault.{is_large, size_fault, line_fault, give_line, end_fault, at, or_later, fault_from, first_fault, given_from}
+use Rattle.pc_text.specs.FirstFault.{is_large, size_fault, line_fault, give_line, end_fault, at, fault_from, first_fault, given_from}
 
 -- the line is followed by a line feed, or it is the last
 abbrev pub Ends : List ℕ → Type 0
@@ -25,7 +25,7 @@ fault_from-nil given number start total = refl
 
 pub fault_from-cons : (given : Given) (number start total : ℕ) (line : List ℕ) (later : List (List ℕ)) →
     fault_from given number start total (line ∷ later)
-    ≡ or_later (at number (or_else (size_fault (is_large number (min (start + length line + 1) total) line)) (line_fault given line))) (fault_from (give_line given line) (number + 1) (start + length line + 1) total later)
+    ≡ option_or (at number (option_or (size_fault (is_large number (min (start + length line + 1) total) line)) (line_fault given line))) (fault_from (give_line given line) (number + 1) (start + length line + 1) total later)
 unfolding fault_from
 fault_from-cons given number start total line later = refl
 
@@ -40,7 +40,7 @@ given_from-cons given line later = refl
 -- what one line does: whatever follows, it is told first
 pub fault_step : (given : Given) (number total : ℕ) (rest : List ℕ) → 0 < length rest → length rest ≤ total →
     fault_from given number (total - length rest) total (lines rest)
-    ≡ or_later (at number (or_else (size_fault (is_large number (total - length (after_line rest)) (first_line rest))) (line_fault given (first_line rest))))
+    ≡ option_or (at number (option_or (size_fault (is_large number (total - length (after_line rest)) (first_line rest))) (line_fault given (first_line rest))))
     (fault_from (give_line given (first_line rest)) (number + 1) (total - length (after_line rest)) total (lines (after_line rest)))
 fault_step given number total rest some within =
     let line = first_line rest in
@@ -50,9 +50,9 @@ fault_step given number total rest some within =
     ∙ by given number total rest within (ends (cut rest))
   where
     by : (given : Given) (number total : ℕ) (rest : List ℕ) → length rest ≤ total → Ends rest →
-        or_later (at number (or_else (size_fault (is_large number (min (total - length rest + length (first_line rest) + 1) total) (first_line rest))) (line_fault given (first_line rest))))
+        option_or (at number (option_or (size_fault (is_large number (min (total - length rest + length (first_line rest) + 1) total) (first_line rest))) (line_fault given (first_line rest))))
         (fault_from (give_line given (first_line rest)) (number + 1) (total - length rest + length (first_line rest) + 1) total (lines (after_line rest)))
-        ≡ or_later (at number (or_else (size_fault (is_large number (total - length (after_line rest)) (first_line rest))) (line_fault given (first_line rest))))
+        ≡ option_or (at number (option_or (size_fault (is_large number (total - length (after_line rest)) (first_line rest))) (line_fault given (first_line rest))))
         (fault_from (give_line given (first_line rest)) (number + 1) (total - length (after_line rest)) total (lines (after_line rest)))
     by given number total rest within (inl e) =
         let start : total - length rest + length (first_line rest) + 1 ≡ total - length (after_line rest) = omega arith in
@@ -82,7 +82,7 @@ less_after rest some = by rest some (ends (cut rest))
 -- the same of a text that is read, where the line was cut off
 pub stepped : (given : Given) (number : ℕ) (text rest line after : List ℕ) → 0 < length rest → length rest ≤ length text → line ≡ first_line rest → after ≡ after_line rest →
     fault_from given number (length text - length rest) (length text) (lines rest) ≡ first_fault text →
-    or_later (at number (or_else (size_fault (is_large number (length text - length after) line)) (line_fault given line)))
+    option_or (at number (option_or (size_fault (is_large number (length text - length after) line)) (line_fault given line)))
     (fault_from (give_line given line) (number + 1) (length text - length after) (length text) (lines after)) ≡ first_fault text
 stepped given number text rest line after some within line_is after_is read =
     rw (line_is, after_is) (sym (fault_step given number (length text) rest some within) ∙ read)

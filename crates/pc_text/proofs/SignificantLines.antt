@@ -3,17 +3,18 @@ use Rattle.std.proofs.Common.{◌≡◌, ℕ, ◌+◌, ◌≤◌, ◌==◌, Bool
 use Rattle.std.specs.Prelude.{◌||◌, nat_lt}
 use Rattle.std.specs.List.{filter, list_all, onto_first}
 use Rattle.std.proofs.lemmas.Bool.{cases_Bool, ltb-false, le-ltb, le-leb, leb-true}
+use Rattle.std.specs.Option.{option_or}
 use Rattle.pc_base.specs.Lines.{lines}
 use Rattle.pc_base.proofs.DistinctLemmas.{both_true_parts, both_false_parts}
 use Rattle.pc_rules.specs.declared.kind.Kind.{Kind}
 use Rattle.pc_names.specs.LineWords.{after_word}
 use Rattle.pc_text.specs.Given.{Given, nothing_given, variables_given, catalogue_of, is_skipped, keyword_at, arguments_at, give_statement}
-use Rattle.pc_text.specs.Orders.{or_else, statement_fault}
+use Rattle.pc_text.specs.Orders.{statement_fault}
 use Rattle.pc_rules.specs.RuleText.{rule_of}
-use Rattle.pc_text.specs.FirstFault.{is_large, size_fault, line_fault, give_line, end_fault, at, or_later, fault_from, given_from, first_fault, given_by}
+use Rattle.pc_text.specs.FirstFault.{is_large, size_fault, line_fault, give_line, end_fault, at, fault_from, given_from, first_fault, given_by}
 use Rattle.pc_text.specs.Spells.{is_small_line, is_significant, significant_lines, IsSmallText}
 use Rattle.pc_text.proofs.FaultLemmas.{fault_from-nil, fault_from-cons, given_from-cons}
-use Rattle.pc_text.proofs.StatementFaults.{or_else_parts}
+use Rattle.pc_text.proofs.StatementFaults.{neither_parts}
 
 -- no line has a fault after those before it, nor has the end
 abbrev pub Faultless : Given → List (List ℕ) → Type 0
@@ -94,10 +95,6 @@ at_none : (number : ℕ) (fault : Option Kind) → at number fault ≡ None → 
 at_none number None e = refl
 at_none number (Some kind) e = absurd cc
 
-or_later_parts : (first second : Option (ℕ × Kind)) → or_later first second ≡ None → (first ≡ None) × (second ≡ None)
-or_later_parts None second e = (refl, e)
-or_later_parts (Some fault) second e = absurd cc
-
 size_none : (large : Bool) → size_fault large ≡ None → large ≡ false
 size_none true e = absurd cc
 size_none false e = refl
@@ -115,8 +112,8 @@ parts given number start total (line ∷ later) few small none =
     let end = min (start + length line + 1) total in
     let large = is_large number end line in
     let next = start + length line + 1 in
-    let both = or_later_parts (at number (or_else (size_fault large) (line_fault given line))) (fault_from (give_line given line) (number + 1) next total later) (sym (fault_from-cons given number start total line later) ∙ none) in
-    let here = or_else_parts (size_fault large) (line_fault given line) (at_none number _ both.0) in
+    let both = neither_parts (at number (option_or (size_fault large) (line_fault given line))) (fault_from (give_line given line) (number + 1) next total later) (sym (fault_from-cons given number start total line later) ∙ none) in
+    let here = neither_parts (size_fault large) (line_fault given line) (at_none number _ both.0) in
     let sizes = both_false_parts (nat_lt 65536 (length line) || nat_lt 8192 number) (nat_lt 1048576 end) (size_none large here.0) in
     let line_sizes = both_false_parts (nat_lt 65536 (length line)) (nat_lt 8192 number) sizes.0 in
     let short : length line ≤ 65536 = ltb-false 65536 (length line) line_sizes.0 in

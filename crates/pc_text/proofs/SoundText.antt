@@ -3,7 +3,7 @@ use Rattle.std.proofs.Common.{◌≡◌, ℕ, ℤ, pos, ◌+◌, ◌<◌, ◌≤
 use Rattle.std.specs.Prelude.{is_none, option_map}
 use Rattle.std.specs.Fmt.{digits}
 use Rattle.std.specs.List.{list_all, list_any}
-use Rattle.std.specs.Option.{option_to_list, unwrap_or}
+use Rattle.std.specs.Option.{option_to_list, unwrap_or, option_or}
 use Rattle.std.proofs.lemmas.Bool.{and_from, not-false, not-true}
 use Rattle.std.proofs.lemmas.Bool.Decides.{nat_tests}
 use Rattle.std.proofs.lemmas.List.{append-nil, length-map}
@@ -25,10 +25,11 @@ use Rattle.pc_text.specs.declared.keyword.Keyword.TheVariants as keyword
 use Rattle.pc_rules.specs.declared.kind.Kind.{Kind}
 use Rattle.pc_names.specs.LineWords.{after_word}
 use Rattle.pc_text.specs.Given.{Given, nothing_given, variables_given, contents_given, catalogue_of, is_skipped, keyword_at, arguments_at, argument, value_given, with_value, give, give_rule, give_statement}
-use Rattle.pc_text.specs.Orders.{first_standing, is_wrong_header, comes_wrong, is_malformed, keeps_range, is_cost_text, has_wrong_number, is_one_too_many, is_repeated, orders, rule_fault, fault_of_rule, print_fault, or_else, statement_fault}
-use Rattle.pc_text.specs.FirstFault.{is_large, size_fault, line_fault, give_line, end_fault, at, or_later, fault_from, given_from, first_fault, given_by}
+use Rattle.pc_text.specs.Orders.{first_standing, is_wrong_header, comes_wrong, is_malformed, keeps_range, is_cost_text, has_wrong_number, is_one_too_many, is_repeated, orders, rule_fault, fault_of_rule, print_fault, statement_fault}
+use Rattle.pc_text.specs.FirstFault.{is_large, size_fault, line_fault, give_line, end_fault, at, fault_from, given_from, first_fault, given_by}
 use Rattle.pc_rules.specs.RuleText.{rule_of}
 use Rattle.pc_rules.proofs.RuleRead.{rule_of-read, rule_fits}
+use Rattle.pc_text.proofs.StatementFaults.{neither_parts}
 
 -- ---- what lines without a fault have given
 
@@ -92,10 +93,6 @@ nothing_sound = record {
 standing_parts : (fault : Bool) (kind : Kind) (later : Option Kind) → cond fault (Some kind) later ≡ None → (fault ≡ false) × (later ≡ None)
 standing_parts true kind later h = absurd cc
 standing_parts false kind later h = (refl, h)
-
-or_else_parts : (first later : Option Kind) → or_else first later ≡ None → (first ≡ None) × (later ≡ None)
-or_else_parts None later h = (refl, h)
-or_else_parts (Some kind) later h = absurd cc
 
 -- nothing is wrong with a statement
 record Allowed (given : Given) (word : Option Keyword) (arguments : List (List ℕ)) : Type 0 where
@@ -423,8 +420,8 @@ module _ (given : Given) (arguments : List (List ℕ)) (s : Sound given) where
   told_none : (word : Option Keyword) (rule : Result Rule Kind) → statement_fault given word arguments rule ≡ None → Allowed given word arguments × (fault_of_rule word rule ≡ None)
   told_none word rule none =
       let prints = print_fault (give_statement given word arguments rule).printed in
-      let parts = or_else_parts (first_standing (orders given word arguments)) (or_else (fault_of_rule word rule) prints) none in
-      (allowed given word arguments parts.0, (or_else_parts (fault_of_rule word rule) prints parts.1).0)
+      let parts = neither_parts (first_standing (orders given word arguments)) (option_or (fault_of_rule word rule) prints) none in
+      (allowed given word arguments parts.0, (neither_parts (fault_of_rule word rule) prints parts.1).0)
 
   given_some_rule : (rule : Result Rule Kind) → ((r : Rule) → rule ≡ Ok r → is_rule (variables_given given) r ≡ true) → Allowed given (Some keyword.Rule) arguments → rule_fault rule ≡ None → Sound (give_rule given rule)
   given_some_rule (Ok rule) sound a none = given_rule given rule arguments s a (sound rule refl)
@@ -460,7 +457,7 @@ given_line : (given : Given) (line : List ℕ) → Sound given → line_fault gi
 unfolding line_fault give_line
 given_line given line s none = given_line_by given line (is_skipped line) s none
 
-no_later : (number : ℕ) (fault : Option Kind) (later : Option (ℕ × Kind)) → or_later (at number fault) later ≡ None → (fault ≡ None) × (later ≡ None)
+no_later : (number : ℕ) (fault : Option Kind) (later : Option (ℕ × Kind)) → option_or (at number fault) later ≡ None → (fault ≡ None) × (later ≡ None)
 no_later number None later h = (refl, h)
 no_later number (Some kind) later h = absurd cc
 
@@ -479,10 +476,10 @@ given_lines : (given : Given) (number start total : ℕ) (lines : List (List ℕ
 unfolding fault_from given_from
 given_lines given number start total [] s none = (s, ended number given.last none)
 given_lines given number start total (line ∷ later) s none =
-    let own = or_else (size_fault (is_large number (min (start + length line + 1) total) line)) (line_fault given line) in
+    let own = option_or (size_fault (is_large number (min (start + length line + 1) total) line)) (line_fault given line) in
     let rest = fault_from (give_line given line) (number + 1) (start + length line + 1) total later in
     let parts = no_later number own rest none in
-    let fine = or_else_parts (size_fault (is_large number (min (start + length line + 1) total) line)) (line_fault given line) parts.0 in
+    let fine = neither_parts (size_fault (is_large number (min (start + length line + 1) total) line)) (line_fault given line) parts.0 in
     given_lines (give_line given line) (number + 1) (start + length line + 1) total later (given_line given line s fine.1) parts.1
 
 complete_file : (given : Given) → Sound given → Complete given → IsPrintable (contents_given given) → IsFile (contents_given given)

@@ -1,11 +1,12 @@
 -- A statement has no fault exactly where nothing that may be wrong with it is.
 use Rattle.std.proofs.Common.{◌≡◌, Bool, true, false, List, [], ◌∷◌, ℕ, Option, Some, None, Result, refl}
+use Rattle.std.specs.Option.{option_or}
 use Rattle.pc_file.specs.declared.rule.Rule.{Rule}
 use Rattle.pc_text.specs.declared.keyword.Keyword.{Keyword}
 use Rattle.pc_rules.specs.declared.kind.Kind.{Kind}
 use Rattle.pc_rules.specs.declared.kind.Kind.TheVariants as kind
 use Rattle.pc_text.specs.Given.{Given, give_statement}
-use Rattle.pc_text.specs.Orders.{first_standing, is_wrong_header, comes_wrong, expected_after, is_malformed, kind_named, has_wrong_number, is_one_too_many, is_repeated, orders, fault_of_rule, print_fault, or_else, statement_fault}
+use Rattle.pc_text.specs.Orders.{first_standing, is_wrong_header, comes_wrong, expected_after, is_malformed, kind_named, has_wrong_number, is_one_too_many, is_repeated, orders, fault_of_rule, print_fault, statement_fault}
 
 -- each thing that may be wrong isn't
 pub record NoFault (given : Given) (word : Option Keyword) (arguments : List (List ℕ)) (rule : Result Rule Kind) : Type 0 where
@@ -26,13 +27,14 @@ first_none : (stands : Bool) (kind : Kind) (rest : List (Bool × Kind)) → stan
 first_none true kind rest e none = absurd cc
 first_none false kind rest e none = none
 
-pub or_else_parts : (first second : Option Kind) → or_else first second ≡ None → (first ≡ None) × (second ≡ None)
-or_else_parts None second e = (refl, e)
-or_else_parts (Some kind) second e = absurd cc
+-- neither of two is there
+pub neither_parts : {T : Type 0} (first second : Option T) → option_or first second ≡ None → (first ≡ None) × (second ≡ None)
+neither_parts None second e = (refl, e)
+neither_parts (Some x) second e = absurd cc
 
-pub or_else_none : (first second : Option Kind) → first ≡ None → second ≡ None → or_else first second ≡ None
-or_else_none None second e none = none
-or_else_none (Some kind) second e none = absurd cc
+neither : {T : Type 0} (first second : Option T) → first ≡ None → second ≡ None → option_or first second ≡ None
+neither None second e none = none
+neither (Some x) second e none = absurd cc
 
 module _ (given : Given) (word : Option Keyword) (arguments : List (List ℕ)) (rule : Result Rule Kind) where
   abbrev sixth : List (Bool × Kind)
@@ -53,8 +55,8 @@ module _ (given : Given) (word : Option Keyword) (arguments : List (List ℕ)) (
   pub no_fault_parts : statement_fault given word arguments rule ≡ None → NoFault given word arguments rule
   no_fault_parts none =
       let prints = print_fault (give_statement given word arguments rule).printed in
-      let both = or_else_parts (first_standing (orders given word arguments)) (or_else (fault_of_rule word rule) prints) none in
-      let last = or_else_parts (fault_of_rule word rule) prints both.1 in
+      let both = neither_parts (first_standing (orders given word arguments)) (option_or (fault_of_rule word rule) prints) none in
+      let last = neither_parts (fault_of_rule word rule) prints both.1 in
       let a = first_parts (is_wrong_header given word arguments) kind.Header second both.0 in
       let b = first_parts (comes_wrong given.last word) (expected_after given.last) third a.1 in
       let c = first_parts (is_malformed given word arguments) (kind_named word) fourth b.1 in
@@ -72,4 +74,4 @@ module _ (given : Given) (word : Option Keyword) (arguments : List (List ℕ)) (
       let b = first_none (comes_wrong given.last word) (expected_after given.last) third h.comes c in
       let a = first_none (is_wrong_header given word arguments) kind.Header second h.heads b in
       let prints = print_fault (give_statement given word arguments rule).printed in
-      or_else_none (first_standing (orders given word arguments)) (or_else (fault_of_rule word rule) prints) a (or_else_none (fault_of_rule word rule) prints h.reads h.prints)
+      neither (first_standing (orders given word arguments)) (option_or (fault_of_rule word rule) prints) a (neither (fault_of_rule word rule) prints h.reads h.prints)

@@ -23,7 +23,3 @@ crowded_line text = crowded_from nothing_given 1 (lines text)
 abbrev pub words_before : List ℕ → ℕ → ℕ
 words_before [] more = more
 words_before (count ∷ counts) more = count * words_before counts more
-
-abbrev pub or_first : Option ℕ → Option ℕ → Option ℕ
-or_first None later = later
-or_first (Some line) later = Some line

@@ -1,5 +1,6 @@
 -- The first fault of a text, by its lines in order.
 use Rattle.std.specs.Prelude.{ℕ, ◌+◌, nat_lt, min, Bool, ◌||◌, if◌then◌else◌, List, [], ◌∷◌, length, Option, Some, None}
+use Rattle.std.specs.Option.{option_or}
 use Rattle.pc_base.specs.Lines.{lines}
 use Rattle.pc_text.specs.declared.keyword.Keyword.{Keyword}
 use Rattle.pc_text.specs.declared.keyword.Keyword.TheVariants as keyword
@@ -8,7 +9,7 @@ use Rattle.pc_rules.specs.declared.kind.Kind.TheVariants as kind
 use Rattle.pc_text.specs.declared.limits.TheConstants.{LINE_BYTES, LINES, TEXT_BYTES}
 use Rattle.pc_names.specs.LineWords.{after_word}
 use Rattle.pc_text.specs.Given.{Given, nothing_given, variables_given, catalogue_of, is_skipped, keyword_at, arguments_at, give_statement}
-use Rattle.pc_text.specs.Orders.{or_else, statement_fault}
+use Rattle.pc_text.specs.Orders.{statement_fault}
 use Rattle.pc_rules.specs.RuleText.{rule_of}
 
 -- a line has too many bytes, or is one line too many or a later one, or ends, with its line feed, past the last byte that a text may have
@@ -40,15 +41,11 @@ abbrev pub at : ℕ → Option Kind → Option (ℕ × Kind)
 at number None = None
 at number (Some kind) = Some (number, kind)
 
-abbrev pub or_later : Option (ℕ × Kind) → Option (ℕ × Kind) → Option (ℕ × Kind)
-or_later None later = later
-or_later (Some fault) later = Some fault
-
 -- The first fault from a line on: its number, the place of its first byte and the bytes of the whole text are given.
 unfoldable pub fault_from : Given → ℕ → ℕ → ℕ → List (List ℕ) → Option (ℕ × Kind)
 fault_from given number start total [] = at number (end_fault given.last)
 fault_from given number start total (line ∷ later) =
-    or_later (at number (or_else (size_fault (is_large number (min (start + length line + 1) total) line)) (line_fault given line)))
+    option_or (at number (option_or (size_fault (is_large number (min (start + length line + 1) total) line)) (line_fault given line)))
     (fault_from (give_line given line) (number + 1) (start + length line + 1) total later)
 
 -- what lines give, one after the other

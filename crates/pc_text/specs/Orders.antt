@@ -1,6 +1,7 @@
 -- What may be wrong with a statement, each as a fact about what the lines before give and this line. Of several the first is told.
 use Rattle.std.specs.Prelude.{ℕ, ℤ, ◌+◌, nat_le, Bool, false, not, ◌&&◌, ◌==◌, if◌then◌else◌, List, [], ◌∷◌, length, drop, codes, Option, Some, None, is_none, Result, Ok, Err}
 use Rattle.std.specs.List.{list_all, list_any}
+use Rattle.std.specs.Option.{option_or}
 use Rattle.pc_names.specs.Name.{is_name}
 use Rattle.pc_names.specs.Number.{int_of}
 use Rattle.pc_diagram.specs.declared.limits.TheConstants.{MOST_VALUES, MOST_VARIABLES}
@@ -103,10 +104,6 @@ abbrev pub fault_of_rule : Option Keyword → Result Rule Kind → Option Kind
 fault_of_rule (Some keyword.Rule) rule = rule_fault rule
 fault_of_rule word rule = None
 
-abbrev pub or_else : Option Kind → Option Kind → Option Kind
-or_else None other = other
-or_else (Some kind) other = Some kind
-
 -- a printed line that breaks a limit
 abbrev pub print_fault : Option ℕ → Option Kind
 print_fault None = Some kind.Size
@@ -115,4 +112,4 @@ print_fault (Some bytes) = None
 -- the fault of a statement: of its words, then of its rule, then of its printed line
 abbrev pub statement_fault : Given → Option Keyword → List (List ℕ) → Result Rule Kind → Option Kind
 statement_fault given word arguments rule =
-    or_else (first_standing (orders given word arguments)) (or_else (fault_of_rule word rule) (print_fault (give_statement given word arguments rule).printed))
+    option_or (first_standing (orders given word arguments)) (option_or (fault_of_rule word rule) (print_fault (give_statement given word arguments rule).printed))

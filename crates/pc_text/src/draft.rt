@@ -1,15 +1,16 @@
 //! Reading statements one after the other.
 
-ghost use Rattle.std.specs.Prelude.{◌≡◌, ◌==◌, ◌&&◌, ◌||◌, not, [], ◌∷◌, ◌<◌, codes, length, slice_index, Some, None, IfOk, IsErrOf, Result};
+ghost use Rattle.std.specs.Prelude.{◌≡◌, ◌==◌, ◌&&◌, ◌||◌, not, [], ◌∷◌, ◌<◌, codes, length, slice_index, Some, None, IfOk, Result};
 ghost use Rattle.pc_file.specs.Limits.{IsFile};
 ghost use Rattle.std.specs.List.{list_any};
+ghost use Rattle.std.specs.Option.{option_or};
 ghost use Rattle.pc_names.specs.Spelling.{same_spelling};
 ghost use Rattle.pc_text.specs.Arguments.{bytes};
 ghost use Rattle.pc_file.specs.declared.rule.Rule.{Rule};
 ghost use Rattle.pc_file.specs.PrintedSize.{with_line};
 ghost use Rattle.pc_rules.specs.declared.kind.Kind.{Kind};
 ghost use Rattle.pc_text.specs.Given.{argument, catalogue_of, contents_given, give, give_rule, give_statement, variables_given};
-ghost use Rattle.pc_text.specs.Orders.{fault_of_rule, first_standing, or_else, orders_within, print_fault, rule_fault, statement_fault};
+ghost use Rattle.pc_text.specs.Orders.{fault_of_rule, first_standing, orders_within, print_fault, rule_fault, statement_fault};
 ghost use Rattle.pc_text.specs.FirstFault.{line_fault, give_line};
 ghost use Rattle.pc_text.specs.Crowded.{is_crowded};
 ghost use Rattle.pc_names.specs.LineWords.{words};
@@ -24,9 +25,9 @@ use crate::keyword::Keyword;
 use crate::line_words::words;
 use crate::statement_fault::StatementFault;
 use crate::variables::Variables;
-use pc_base::Sequence;
+use pc_base::{NoMemory, Sequence};
 use pc_file::{
-    File, FileFault, MOST_COSTS, MOST_RULES, Rule, cost_line_size, end_line_size, header_line_size,
+    File, MOST_COSTS, MOST_RULES, Rule, cost_line_size, end_line_size, header_line_size,
     rule_line_size, value_line_size, variable_line_size, with_line,
 };
 use pc_names::{Name, cut_word};
@@ -72,13 +73,13 @@ impl Draft {
         self.take_statement(alloc, Keyword::read(word), text)
     }
 
-    /// The file that all statements give.
-    pub fn into_file(self, alloc: Global) -> Result<File, FileFault>
-        ensures file { IfOk result (λ file. file ≡ contents_given (given_of self)) }
-        ensures limit { IsErrOf result FileFault.Limit → ¬ IsFile (contents_given (given_of self)) }
+    /// The file that all statements give, where they keep all limits of files.
+    pub fn into_file(self) -> Result<File, NoMemory>
+        requires { IsFile (contents_given (given_of self)) }
+        ensures { IfOk result (λ file. file ≡ contents_given (given_of self)) }
     {
-        let variables = self.variables.close()?.into_closed();
-        File::new(alloc, self.costs, variables, self.rules)
+        let (variables, names) = self.variables.close()?.into_parts();
+        Ok(File::with_names(self.costs, variables, self.rules, names))
     }
 
     /// The keyword of the last statement.
@@ -120,7 +121,7 @@ impl Draft {
 
     /// A first line that begins with `product`.
     fn take_header(mut self, arguments: &[&[u8]]) -> Result<Draft, StatementFault>
-        ensures { Tells result (or_else (first_standing ((not ((length (bytes arguments.now) == 1) && same_spelling (argument (bytes arguments.now) 0) (codes "1")), Header) ∷ []))
+        ensures { Tells result (option_or (first_standing ((not ((length (bytes arguments.now) == 1) && same_spelling (argument (bytes arguments.now) 0) (codes "1")), Header) ∷ []))
             (print_fault (give (given_of self) (Some Keyword.Product) (bytes arguments.now)).printed))
             (λ draft. given_of draft ≡ give (given_of self) (Some Keyword.Product) (bytes arguments.now)) }
     {
@@ -139,8 +140,8 @@ impl Draft {
         text: &[u8],
     ) -> Result<Draft, StatementFault>
         ensures { let given = given_of self in let rule = rule_of (catalogue_of (variables_given given)) text.now in
-            Tells result (or_else (first_standing (orders_within given (Some word) (words text.now)))
-            (or_else (fault_of_rule (Some word) rule) (print_fault (give_statement given (Some word) (words text.now) rule).printed)))
+            Tells result (option_or (first_standing (orders_within given (Some word) (words text.now)))
+            (option_or (fault_of_rule (Some word) rule) (print_fault (give_statement given (Some word) (words text.now) rule).printed)))
             (λ draft. given_of draft ≡ give_statement given (Some word) (words text.now) rule) }
     {
         match word {
@@ -158,7 +159,7 @@ impl Draft {
 
     /// A line `cost NAME`.
     fn take_cost(mut self, arguments: &[&[u8]]) -> Result<Draft, StatementFault>
-        ensures { Tells result (or_else (first_standing (orders_within (given_of self) (Some Keyword.Cost) (bytes arguments.now)))
+        ensures { Tells result (option_or (first_standing (orders_within (given_of self) (Some Keyword.Cost) (bytes arguments.now)))
             (print_fault (give (given_of self) (Some Keyword.Cost) (bytes arguments.now)).printed))
             (λ draft. given_of draft ≡ give (given_of self) (Some Keyword.Cost) (bytes arguments.now)) }
     {
@@ -176,7 +177,7 @@ impl Draft {
 
     /// A line `variable NAME`.
     fn take_variable(mut self, alloc: Global, arguments: &[&[u8]]) -> Result<Draft, StatementFault>
-        ensures { Tells result (or_else (first_standing (orders_within (given_of self) (Some Keyword.Variable) (bytes arguments.now)))
+        ensures { Tells result (option_or (first_standing (orders_within (given_of self) (Some Keyword.Variable) (bytes arguments.now)))
             (print_fault (give (given_of self) (Some Keyword.Variable) (bytes arguments.now)).printed))
             (λ draft. given_of draft ≡ give (given_of self) (Some Keyword.Variable) (bytes arguments.now)) }
     {
@@ -188,7 +189,7 @@ impl Draft {
 
     /// A line `value NAME NUMBER` or `value NAME NUMBER NUMBER`.
     fn take_value(mut self, arguments: &[&[u8]]) -> Result<Draft, StatementFault>
-        ensures { Tells result (or_else (first_standing (orders_within (given_of self) (Some Keyword.Value) (bytes arguments.now)))
+        ensures { Tells result (option_or (first_standing (orders_within (given_of self) (Some Keyword.Value) (bytes arguments.now)))
             (print_fault (give (given_of self) (Some Keyword.Value) (bytes arguments.now)).printed))
             (λ draft. given_of draft ≡ give (given_of self) (Some Keyword.Value) (bytes arguments.now)) }
     {
@@ -201,7 +202,7 @@ impl Draft {
 
     /// A line `end`.
     fn take_end(mut self, arguments: &[&[u8]]) -> Result<Draft, StatementFault>
-        ensures { Tells result (or_else (first_standing (orders_within (given_of self) (Some Keyword.End) (bytes arguments.now)))
+        ensures { Tells result (option_or (first_standing (orders_within (given_of self) (Some Keyword.End) (bytes arguments.now)))
             (print_fault (give (given_of self) (Some Keyword.End) (bytes arguments.now)).printed))
             (λ draft. given_of draft ≡ give (given_of self) (Some Keyword.End) (bytes arguments.now)) }
     {
@@ -216,8 +217,8 @@ impl Draft {
     /// A line that begins with `rule`.
     fn take_rule(mut self, alloc: Global, text: &[u8]) -> Result<Draft, StatementFault>
         ensures { let rule = rule_of (catalogue_of (variables_given (given_of self))) text.now in
-            Tells result (or_else (first_standing (orders_within (given_of self) (Some Keyword.Rule) []))
-            (or_else (rule_fault rule) (print_fault (give_rule (given_of self) rule).printed)))
+            Tells result (option_or (first_standing (orders_within (given_of self) (Some Keyword.Rule) []))
+            (option_or (rule_fault rule) (print_fault (give_rule (given_of self) rule).printed)))
             (λ draft. given_of draft ≡ give_rule (given_of self) rule) }
     {
         if self.rules.len() >= MOST_RULES {

@@ -1,7 +1,8 @@
 //! Reading a text from its first line to its last.
 
 ghost use Rattle.std.specs.Prelude.{◌≡◌, if◌then◌else◌, Some, None};
-ghost use Rattle.pc_text.specs.Crowded.{crowded_line, is_crowded, or_first};
+ghost use Rattle.std.specs.Option.{option_or};
+ghost use Rattle.pc_text.specs.Crowded.{crowded_line, is_crowded};
 ghost use Rattle.pc_text.specs.FirstFault.{end_fault, first_fault, give_line, given_by, is_large, line_fault};
 ghost use Rattle.pc_text.specs.Draft.{given_of};
 ghost use Rattle.pc_text.specs.Told.{TellsAt, ReadsText};
@@ -55,7 +56,7 @@ pub fn read_statements(alloc: Global, text: &[u8]) -> Result<Statements, TextFau
 
 /// The line that was crowded first, where this one is read.
 fn first_crowded(crowded: Option<u64>, draft: &Draft, number: u64) -> Option<u64>
-    ensures { result ≡ or_first crowded (if is_crowded (given_of draft.now) then Some number else None) }
+    ensures { result ≡ option_or crowded (if is_crowded (given_of draft.now) then Some number else None) }
 {
     if crowded.is_none() && draft.is_crowded() {
         return Some(number);

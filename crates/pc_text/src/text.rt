@@ -10,7 +10,8 @@ ghost use Rattle.pc_text.specs.Told.{ReadsText};
 
 use crate::reading::read_statements;
 use crate::text_fault::TextFault;
-use pc_file::{File, FileFault};
+use pc_base::NoMemory;
+use pc_file::File;
 use std::alloc::Global;
 
 /// The file that a product text spells, or the first fault of the text.
@@ -20,10 +21,9 @@ pub fn read_file(alloc: Global, text: &[u8]) -> Result<File, TextFault>
     ensures only { (file : Contents) → Spells text.now file → GivesFile file result }
 {
     match read_statements(alloc, text) {
-        Ok(statements) => match statements.draft.into_file(alloc) {
+        Ok(statements) => match statements.draft.into_file() {
             Ok(file) => Ok(file),
-            Err(FileFault::Limit) => unreachable!(),
-            Err(FileFault::NoMemory) => Err(TextFault::NoMemory),
+            Err(NoMemory) => Err(TextFault::NoMemory),
         },
         Err(fault) => Err(fault),
     }

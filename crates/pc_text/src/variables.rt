@@ -3,6 +3,7 @@
 ghost use Rattle.std.specs.Prelude.{◌≡◌, [], map, None, IfOk};
 ghost use Rattle.std.specs.Option.{option_to_list};
 ghost use Rattle.pc_file.specs.Limits.{value_names};
+ghost use Rattle.pc_file.specs.Catalogue.{Indexes};
 ghost use Rattle.pc_file.specs.Products.{value_counts, word_count};
 ghost use Rattle.pc_text.specs.Given.{catalogue_of, with_value};
 ghost use Rattle.pc_text.specs.Orders.{first_standing, values_in};
@@ -206,11 +207,12 @@ impl Variables {
         })
     }
 
-    /// The variables whose values are all given.
-    pub fn into_closed(self) -> Sequence<Variable>
-        ensures { result ≡ self.closed }
+    /// The variables whose values are all given, and their names, where no variable is open.
+    pub fn into_parts(self) -> (Sequence<Variable>, Catalogue)
+        ensures variables { result.0 ≡ self.closed }
+        ensures names { self.open_variable ≡ None → Indexes result.1 self.closed }
     {
-        let Variables { closed, .. } = self;
-        closed
+        let Variables { closed, names, .. } = self;
+        (closed, names)
     }
 }

@@ -1,7 +1,8 @@
 use Rattle.std.proofs.Common.{◌≡◌, ◌-◌, ◌≤◌, length}
+use Rattle.std.specs.Option.{option_or}
 use Rattle.pc_base.specs.Lines.{lines}
 use Rattle.pc_text.specs.FirstFault.{fault_from, given_from, first_fault, given_by}
-use Rattle.pc_text.specs.Crowded.{crowded_from, crowded_line, or_first}
+use Rattle.pc_text.specs.Crowded.{crowded_from, crowded_line}
 use Rattle.pc_text.specs.Draft.{given_of}
 use Rattle.pc_text.proofs.reading.read_statements.Given as goal
 
@@ -11,7 +12,7 @@ invariant-loop-rest l = record {
   numbered : l.number ≤ 8193;
   fault : fault_from (given_of l.draft) l.number (length l.text - length l.rest) (length l.text) (lines l.rest) ≡ first_fault l.text;
   given : given_from (given_of l.draft) (lines l.rest) ≡ given_by l.text;
-  crowded : or_first l.crowded (crowded_from (given_of l.draft) l.number (lines l.rest)) ≡ crowded_line l.text;
+  crowded : option_or l.crowded (crowded_from (given_of l.draft) l.number (lines l.rest)) ≡ crowded_line l.text;
 }
 
 abbrev pub decreases-loop-rest : goal.decreases-loop-rest

@@ -2,6 +2,7 @@
 use Rattle.std.proofs.Common.{◌≡◌, ℕ, Bool, false, nat_le, List, ◌++◌, length, Option, Some, None, Result, Ok, refl, sym, ap, subst, ◌∙◌, arith}
 use Rattle.std.specs.Prelude.{if◌then◌else◌}
 use Rattle.std.proofs.lemmas.Bool.Decides.{nat_tests}
+use Rattle.std.specs.Option.{option_or}
 use Rattle.pc_file.specs.declared.rule.Rule.{Rule}
 use Rattle.pc_file.specs.declared.sizes.TheConstants.{MOST_RULES}
 use Rattle.pc_file.specs.declared.variable.Variable.{Variable}
@@ -14,7 +15,7 @@ use Rattle.pc_rules.specs.RuleText.{rule_of}
 use Rattle.pc_text.specs.declared.keyword.Keyword.{Keyword}
 use Rattle.pc_text.specs.declared.keyword.Keyword.TheVariants as keyword
 use Rattle.pc_text.specs.Given.{Given, catalogue_of, print_more, print_rule, rules_read, variables_given}
-use Rattle.pc_text.specs.Orders.{or_else, print_fault, rule_fault}
+use Rattle.pc_text.specs.Orders.{print_fault, rule_fault}
 use Rattle.pc_text.specs.declared.draft.Draft.{Draft}
 use Rattle.pc_text.specs.GivenVariables.{GivenVariables}
 use Rattle.pc_text.specs.Draft.{given_of}
@@ -29,7 +30,7 @@ given_same : (last : Option Keyword) (costs costs' : List (List ℕ)) (closed cl
     given_with last costs closed variable rules printed ≡ given_with last costs' closed' variable' rules' printed'
 given_same last costs costs' closed closed' variable variable' rules rules' printed printed' a b c d e = rw (a, b, c, d, e) refl
 
-no_other : (large : Bool) (read : Result Rule Kind) (rule : Rule) (later : Option Kind) → large ≡ false → read ≡ Ok rule → later ≡ or_else (if large then Some kind.Size else None) (or_else (rule_fault read) later)
+no_other : (large : Bool) (read : Result Rule Kind) (rule : Rule) (later : Option Kind) → large ≡ false → read ≡ Ok rule → later ≡ option_or (if large then Some kind.Size else None) (option_or (rule_fault read) later)
 no_other large read rule later few ok = rw (few, ok) refl
 
 pub returns : goal.returns
@@ -57,6 +58,6 @@ returns c =
     let after = given_same (Some keyword.Rule) old.costs old.costs now.closed variables now.open_variable None c.push.new.self (old.rules ++ rules_read read)
     (with_line old.printed size) (print_rule (Some old.printed) variables read) refl closed_is open_is rules_are told in
     let counted = given_with (Some keyword.Rule) old.costs now.closed now.open_variable c.push.new.self (with_line old.printed size) in
-    let all = or_else (if nat_le MOST_RULES (length old.rules) then Some kind.Size else None) (or_else (rule_fault read) (print_fault (print_rule (Some old.printed) variables read))) in
+    let all = option_or (if nat_le MOST_RULES (length old.rules) then Some kind.Size else None) (option_or (rule_fault read) (print_fault (print_rule (Some old.printed) variables read))) in
     subst (λ (g : Given). Tells c.print.result all (λ (draft : Draft). given_of draft ≡ g)) after
     (subst (λ (f : Option Kind). Tells c.print.result f (λ (draft : Draft). given_of draft ≡ counted)) faults c.print.ensures)
