@@ -53,6 +53,11 @@ keyword_at line = keyword_of (first_word line)
 abbrev pub arguments_at : List ℕ → List (List ℕ)
 arguments_at line = words (after_word line)
 
+-- the words after a keyword; none after `rule`, whose text is read as a whole
+abbrev pub arguments_of : Option Keyword → List (List ℕ) → List (List ℕ)
+arguments_of (Some keyword.Rule) words = []
+arguments_of word words = words
+
 -- the argument at a place, or nothing
 abbrev pub argument : List (List ℕ) → ℕ → List ℕ
 argument arguments place = slice_index_or arguments place []
@@ -72,6 +77,15 @@ with_value value variable = record { name = variable.name; values = variable.val
 abbrev pub print_more : Option ℕ → List ℕ → Option ℕ
 print_more printed line = option_and_then (λ bytes. with_line bytes (length line)) printed
 
+-- one value more of the open variable
+abbrev pub give_value : Given → Value → Given
+give_value given value =
+    record given {
+      last = Some keyword.Value;
+      open_variable = option_map (with_value value) given.open_variable;
+      printed = print_more given.printed (value_line (length given.costs) value);
+    }
+
 -- one statement more, which is no rule
 abbrev pub give : Given → Option Keyword → List (List ℕ) → Given
 give given (Some keyword.Product) arguments = record given { last = Some keyword.Product; printed = print_more given.printed header_line }
@@ -84,12 +98,7 @@ give given (Some keyword.Variable) arguments =
       open_variable = Some (record { name = argument arguments 0; values = [] });
       printed = print_more given.printed (variable_line (argument arguments 0));
     }
-give given (Some keyword.Value) arguments =
-    record given {
-      last = Some keyword.Value;
-      open_variable = option_map (with_value (value_given arguments)) given.open_variable;
-      printed = print_more given.printed (value_line (length given.costs) (value_given arguments));
-    }
+give given (Some keyword.Value) arguments = give_value given (value_given arguments)
 give given (Some keyword.End) arguments =
     record given { last = Some keyword.End; closed = variables_given given; open_variable = None; printed = print_more given.printed end_line }
 give given word arguments = given

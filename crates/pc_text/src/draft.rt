@@ -9,25 +9,26 @@ ghost use Rattle.pc_text.specs.Arguments.{bytes};
 ghost use Rattle.pc_file.specs.declared.rule.Rule.{Rule};
 ghost use Rattle.pc_file.specs.PrintedSize.{with_line};
 ghost use Rattle.pc_rules.specs.declared.kind.Kind.{Kind};
-ghost use Rattle.pc_text.specs.Given.{argument, catalogue_of, contents_given, give, give_rule, give_statement, variables_given};
-ghost use Rattle.pc_text.specs.Orders.{fault_of_rule, first_standing, orders_within, print_fault, rule_fault, statement_fault};
+ghost use Rattle.pc_text.specs.Given.{argument, catalogue_of, contents_given, give, give_rule, give_statement, give_value, variables_given};
+ghost use Rattle.pc_text.specs.Orders.{fault_of_rule, first_standing, orders_within, print_fault, rule_fault, statement_fault, values_in};
 ghost use Rattle.pc_text.specs.FirstFault.{line_fault, give_line};
 ghost use Rattle.pc_text.specs.Crowded.{is_crowded};
 ghost use Rattle.pc_names.specs.LineWords.{words};
 ghost use Rattle.pc_rules.specs.declared.kind.Kind.TheVariants.{Header};
 ghost use Rattle.pc_rules.specs.RuleText.{rule_of};
 ghost use Rattle.pc_text.specs.Told.{Tells};
+ghost use Rattle.pc_text.specs.Variables.{value_faults};
 ghost use Rattle.pc_text.specs.declared.keyword.Keyword.TheVariants as keyword;
 
 use crate::arguments::{argument, only_free_name, only_name, value_of};
 use crate::crowding::words_before;
 use crate::keyword::Keyword;
-use crate::line_words::words;
+use crate::line_words::arguments_of;
 use crate::statement_fault::StatementFault;
 use crate::variables::Variables;
 use pc_base::{NoMemory, Sequence};
 use pc_file::{
-    File, MOST_COSTS, MOST_RULES, Rule, cost_line_size, end_line_size, header_line_size,
+    File, MOST_COSTS, MOST_RULES, Rule, Value, cost_line_size, end_line_size, header_line_size,
     rule_line_size, value_line_size, variable_line_size, with_line,
 };
 use pc_names::{Name, cut_word};
@@ -109,11 +110,26 @@ impl Draft {
         ensures { let given = given_of self in let rule = rule_of (catalogue_of (variables_given given)) text.now in
             Tells result (statement_fault given word (words text.now) rule) (λ draft. given_of draft ≡ give_statement given word (words text.now) rule) }
     {
+        let arguments = arguments_of(alloc, word, text)?;
+        self.take_words(alloc, word, &arguments, text)
+    }
+
+    /// A line that isn't skipped, by its keyword, its arguments and the bytes after the keyword.
+    fn take_words(
+        self,
+        alloc: Global,
+        word: Option<Keyword>,
+        arguments: &[&[u8]],
+        text: &[u8],
+    ) -> Result<Draft, StatementFault>
+        ensures { let given = given_of self in let rule = rule_of (catalogue_of (variables_given given)) text.now in
+            Tells result (statement_fault given word (bytes arguments.now) rule) (λ draft. given_of draft ≡ give_statement given word (bytes arguments.now) rule) }
+    {
         match (self.last, word) {
-            (None, Some(Keyword::Product)) => self.take_header(&words(alloc, text)?),
+            (None, Some(Keyword::Product)) => self.take_header(arguments),
             (None, _) => Err(StatementFault::Fault(Kind::Header)),
             (Some(last), Some(next)) if last.may_precede(Some(next)) => {
-                self.take_allowed(alloc, next, text)
+                self.take_allowed(alloc, next, arguments, text)
             }
             (Some(last), _) => Err(StatementFault::Fault(last.expected())),
         }
@@ -137,23 +153,24 @@ impl Draft {
         mut self,
         alloc: Global,
         word: Keyword,
+        arguments: &[&[u8]],
         text: &[u8],
     ) -> Result<Draft, StatementFault>
         ensures { let given = given_of self in let rule = rule_of (catalogue_of (variables_given given)) text.now in
-            Tells result (option_or (first_standing (orders_within given (Some word) (words text.now)))
-            (option_or (fault_of_rule (Some word) rule) (print_fault (give_statement given (Some word) (words text.now) rule).printed)))
-            (λ draft. given_of draft ≡ give_statement given (Some word) (words text.now) rule) }
+            Tells result (option_or (first_standing (orders_within given (Some word) (bytes arguments.now)))
+            (option_or (fault_of_rule (Some word) rule) (print_fault (give_statement given (Some word) (bytes arguments.now) rule).printed)))
+            (λ draft. given_of draft ≡ give_statement given (Some word) (bytes arguments.now) rule) }
     {
         match word {
             Keyword::Product => {
                 self.last = Some(Keyword::Product);
                 self.print(header_line_size())
             }
-            Keyword::Cost => self.take_cost(&words(alloc, text)?),
-            Keyword::Variable => self.take_variable(alloc, &words(alloc, text)?),
-            Keyword::Value => self.take_value(&words(alloc, text)?),
+            Keyword::Cost => self.take_cost(arguments),
+            Keyword::Variable => self.take_variable(alloc, arguments),
+            Keyword::Value => self.take_value(arguments),
             Keyword::Rule => self.take_rule(alloc, text),
-            Keyword::End => self.take_end(&words(alloc, text)?),
+            Keyword::End => self.take_end(arguments),
         }
     }
 
@@ -163,6 +180,16 @@ impl Draft {
             (print_fault (give (given_of self) (Some Keyword.Cost) (bytes arguments.now)).printed))
             (λ draft. given_of draft ≡ give (given_of self) (Some Keyword.Cost) (bytes arguments.now)) }
     {
+        let name = self.new_cost(arguments)?;
+        self.costs.push(name)?;
+        self.last = Some(Keyword::Cost);
+        self.print(cost_line_size(&name))
+    }
+
+    /// The name of one cost more.
+    fn new_cost(&self, arguments: &[&[u8]]) -> Result<Name, StatementFault>
+        ensures { Tells result (first_standing (orders_within (given_of self.now) (Some Keyword.Cost) (bytes arguments.now))) (λ name. name ≡ argument (bytes arguments.now) 0) }
+    {
         let name = only_name(arguments).ok_or(StatementFault::Fault(Kind::Cost))?;
         if self.costs.len() >= MOST_COSTS {
             return Err(StatementFault::Fault(Kind::Size));
@@ -170,9 +197,7 @@ impl Draft {
         if self.has_cost(&name) {
             return Err(StatementFault::Fault(Kind::Repeat));
         }
-        self.costs.push(name)?;
-        self.last = Some(Keyword::Cost);
-        self.print(cost_line_size(&name))
+        Ok(name)
     }
 
     /// A line `variable NAME`.
@@ -188,12 +213,20 @@ impl Draft {
     }
 
     /// A line `value NAME NUMBER` or `value NAME NUMBER NUMBER`.
-    fn take_value(mut self, arguments: &[&[u8]]) -> Result<Draft, StatementFault>
+    fn take_value(self, arguments: &[&[u8]]) -> Result<Draft, StatementFault>
         ensures { Tells result (option_or (first_standing (orders_within (given_of self) (Some Keyword.Value) (bytes arguments.now)))
             (print_fault (give (given_of self) (Some Keyword.Value) (bytes arguments.now)).printed))
             (λ draft. given_of draft ≡ give (given_of self) (Some Keyword.Value) (bytes arguments.now)) }
     {
         let value = value_of(arguments, self.costs.len())?;
+        self.with_value(value)
+    }
+
+    /// One value more of the open variable.
+    fn with_value(mut self, value: Value) -> Result<Draft, StatementFault>
+        ensures { Tells result (option_or (first_standing (value_faults (values_in self.variables.open_variable) value.name)) (print_fault (give_value (given_of self) value).printed))
+            (λ draft. given_of draft ≡ give_value (given_of self) value) }
+    {
         let size = value_line_size(self.costs.len(), &value);
         self.variables = self.variables.with_value(value)?;
         self.last = Some(Keyword::Value);
