@@ -1,6 +1,7 @@
 pub mod AgreeLemmas
 pub mod FitLemmas
 pub mod ItemLemmas
+pub mod JoinLemmas
 pub mod ListedLemmas
 pub mod OrderLemmas
 pub mod PartLemmas
