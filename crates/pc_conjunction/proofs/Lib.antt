@@ -1,0 +1,9 @@
+pub mod PlaceLemmas
+pub mod MeetLemmas
+pub mod TargetLemmas
+pub mod ColumnLemmas
+pub mod LayerLemmas
+pub mod NarrowLemmas
+pub mod NewLemmas
+pub mod SizeLemmas
+pub mod StoredLemmas

@@ -1,0 +1,10 @@
+use Rattle.std.proofs.Common.{◌≡◌}
+use Rattle.pc_conjunction.specs.Meets.{GrownColumn}
+use Rattle.pc_conjunction.proofs.LayerLemmas.{Changing}
+use Rattle.pc_conjunction.proofs.layer.Layer.add_pairs.Given as goal
+
+abbrev pub invariant-loop-value : goal.invariant-loop-value
+invariant-loop-value l = record {
+  count : l.self.count ≡ l.fn.self.count;
+  changing : Changing l.store l.layer l.count (λ layers value next old new. GrownColumn l.store l.layer layers value l.pairs next old new) l.value l.fn.next.keys l.next.keys l.fn.self.columns.items l.self.columns.items;
+}

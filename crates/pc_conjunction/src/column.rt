@@ -1,0 +1,67 @@
+//! Where the places of a layer go on after one value.
+
+ghost use Rattle.std.specs.Prelude.{◌≡◌, ◌<◌, ◌≤◌, ◌+◌, ℕ, List, ◌∷◌, length, slice_index, slice_index_or, All, IfOk, OnOk};
+ghost use Rattle.pc_store.specs.Sets.{domains_of, IsNodeAt, has, id_at};
+ghost use Rattle.pc_conjunction.specs.declared.layer.Layer.{Layer};
+ghost use Rattle.pc_conjunction.specs.Meets.{IsBelow, ArePairs, MorePairs, GrownColumn, CutColumn};
+
+use crate::pair::{Pair, target};
+use indexmap::IndexSet;
+use pc_base::{NoMemory, Sequence};
+use pc_diagram::MOST_VARIABLES;
+use pc_store::{Node, Store};
+
+/// Puts an entry at the end of a column for each pair of its layer. The next layer has so many places, and its pairs are
+/// put where they aren't there.
+pub(crate) fn add_entries(
+    column: &mut Sequence<u32>,
+    store: &Store,
+    layer: u32,
+    value: u32,
+    pairs: &[Pair],
+    count: u32,
+    next: &mut IndexSet<Pair>,
+) -> Result<(), NoMemory>
+    requires inner { layer < length (domains_of store.now) }
+    requires few { length (domains_of store.now) ≤ MOST_VARIABLES }
+    requires value { value < slice_index (domains_of store.now) layer }
+    requires pairs { ArePairs store.now layer (length column.old) pairs.now }
+    requires within { All (λ place. place < count) column.old }
+    ensures grown { OnOk result ((layers : List Layer) → IsBelow store.now (layer + 1) count layers → GrownColumn store.now layer layers value pairs.now next.new.keys column.old column.new) }
+    ensures next { OnOk result (MorePairs store.now (layer + 1) count next.old.keys next.new.keys) }
+{
+    for pair in pairs {
+        let next_pair = Pair {
+            place: column.as_slice()[pair.place as usize],
+            node: store.child(pair.node.at(layer), value).node(),
+        };
+        column.push(target(store, layer + 1, count, next, next_pair)?)?;
+    }
+    Ok(())
+}
+
+/// The same entries, but that each goes on in a set of the next layer, which has so many places.
+pub(crate) fn cut_entries(
+    column: &[u32],
+    store: &Store,
+    layer: u32,
+    node: Node,
+    count: u32,
+    next: &mut IndexSet<Pair>,
+) -> Result<Sequence<u32>, NoMemory>
+    requires layer { layer ≤ length (domains_of store.now) }
+    requires node { IsNodeAt store.now layer node }
+    requires within { All (λ place. place < count) column.now }
+    ensures cut { IfOk result (λ cut. (layers : List Layer) → IsBelow store.now layer count layers → CutColumn store.now layer layers (λ word. has store.now (id_at layer node) word) next.new.keys column.now cut) }
+    ensures next { OnOk result (MorePairs store.now layer count next.old.keys next.new.keys) }
+{
+    let mut cut = Sequence::with_capacity(store.allocator(), column.len())?;
+    for place in column {
+        let pair = Pair {
+            place: *place,
+            node,
+        };
+        cut.push(target(store, layer, count, next, pair)?)?;
+    }
+    Ok(cut)
+}
