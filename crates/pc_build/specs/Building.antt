@@ -4,8 +4,7 @@ use Rattle.std.specs.List.{list_all, list_any}
 use Rattle.pc_diagram.specs.declared.limits.TheConstants.{MOST_NODES}
 use Rattle.pc_diagram.specs.declared.raw_diagram.RawDiagram.{RawDiagram}
 use Rattle.pc_diagram.specs.Rests.{rest_count}
-use Rattle.pc_store.specs.declared.id.Id.{Id}
-use Rattle.pc_store.specs.declared.store.Store.{Store}
+use Rattle.pc_conjunction.specs.declared.conjunction.Conjunction.{Conjunction}
 use Rattle.pc_file.specs.declared.variable.Variable.{Variable}
 use Rattle.pc_file.specs.declared.rule.Rule.{Rule}
 use Rattle.pc_file.specs.Contents.{Contents}
@@ -15,17 +14,17 @@ use Rattle.pc_file.specs.Rule.{holds}
 use Rattle.pc_file.specs.Parts.{is_too_large, sets_of, compile_list, IsNodeLimit, HasNoNodeLimit}
 use Rattle.pc_build.specs.declared.fault.BuildFault.{BuildFault}
 use Rattle.pc_build.specs.declared.fault.BuildFault.TheVariants.{NodeLimit, NoProduct, NoMemory}
-use Rattle.pc_build.specs.Making.{Denotes}
+use Rattle.pc_build.specs.Making.{Holds}
 
 -- how the first rules were joined: the sets that were made, none of which is too large, and the words for which all of
 -- these rules hold
-pub record Joined (store : Store) (variables : List Variable) (rules : List Rule) (count : ℕ) (set : Id) : Type 0 where
+pub record Joined (variables : List Variable) (rules : List Rule) (count : ℕ) (all : Conjunction) : Type 0 where
   pub obeys : List ℕ → Bool
   pub before : List (List (List ℕ → Bool))
   pub sets_are : sets_of variables (λ word. true) rules ≡ before ++ sets_of variables obeys (drop count rules)
   pub count_is : length before ≡ count
   pub none : list_any (list_any (is_too_large MOST_NODES (value_counts variables))) before ≡ false
-  pub denotes : Denotes store obeys set
+  pub holds_all : Holds (value_counts variables) all obeys
   pub words : (word : List ℕ) → obeys word ≡ list_all (holds variables word) (take count rules)
 
 -- a fault of joining rules comes exactly so

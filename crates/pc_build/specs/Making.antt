@@ -6,6 +6,8 @@ use Rattle.pc_diagram.specs.Words.{is_word}
 use Rattle.pc_store.specs.declared.id.Id.{Id}
 use Rattle.pc_store.specs.declared.store.Store.{Store}
 use Rattle.pc_store.specs.Sets.{domains_of, IsIdAt, has}
+use Rattle.pc_conjunction.specs.declared.conjunction.Conjunction.{Conjunction}
+use Rattle.pc_conjunction.specs.Conjunctions.{conjunction_domains, contains}
 use Rattle.pc_file.specs.declared.variable.Variable.{Variable}
 use Rattle.pc_file.specs.declared.rule.Rule.{Rule}
 use Rattle.pc_file.specs.Limits.{is_spelled}
@@ -25,6 +27,11 @@ AreSpelled variables rules = list_all (is_spelled variables) rules ≡ true
 pub record Denotes (store : Store) (test : List ℕ → Bool) (id : Id) : Type 0 where
   pub is_id : IsIdAt store 0 id
   pub words : (word : List ℕ) → has store id word ≡ (is_word (domains_of store) word && test word)
+
+-- a conjunction has the words over the numbers of values that pass a test
+pub record Holds (domains : List ℕ) (all : Conjunction) (test : List ℕ → Bool) : Type 0 where
+  pub domains_are : conjunction_domains all ≡ domains
+  pub words : (word : List ℕ) → contains all word ≡ (is_word domains word && test word)
 
 -- each set has the words for which its rule holds
 pub record DenoteEach (store : Store) (variables : List Variable) (rules : List Rule) (ids : List Id) : Type 0 where

@@ -11,6 +11,7 @@ mod edges;
 mod extract;
 mod fault;
 mod joined;
+mod joint;
 pub mod laws;
 mod named;
 mod one_of;

@@ -9,27 +9,21 @@ ghost use Rattle.pc_build.specs.Making.{Denotes};
 ghost use Rattle.pc_build.specs.Building.{IsSmall, IsBuildFault};
 
 use crate::fault::BuildFault;
-use crate::rules::set_of_rules;
+use crate::rules::words_of_rules;
 use pc_base::{NoMemory, Sequence};
+use pc_conjunction::Stored;
 use pc_diagram::MOST_NODES;
 use pc_file::{File, Variable};
-use pc_store::{Id, Store};
+use pc_store::Store;
 use std::alloc::Global;
 
-/// A store over the numbers of values of a file's variables, and in it the set of the file's products.
-#[derive(Debug, Drop)]
-pub(crate) struct ProductSet {
-    pub store: Store,
-    pub set: Id,
-}
-
-/// The set of a file's products. It is made rule by rule, part by part.
+/// The set of a file's products, in a store of its own. It is made rule by rule, part by part.
 ///
 /// # Errors
 ///
 /// The first set on the way that is too large; else that there is no product; or want of memory, which may come in any
 /// case.
-pub(crate) fn set_of_products(alloc: Global, file: &File) -> Result<ProductSet, BuildFault>
+pub(crate) fn set_of_products(alloc: Global, file: &File) -> Result<Stored, BuildFault>
     ensures domains { IfOk result (λ made. domains_of made.store ≡ full_domains file.now) }
     ensures set { IfOk result (λ made. Denotes made.store (obeys file.now) made.set) }
     ensures nodes { IfOk result (λ made. size (domains_of made.store) (has made.store made.set) ≤ MOST_NODES) }
@@ -39,11 +33,12 @@ pub(crate) fn set_of_products(alloc: Global, file: &File) -> Result<ProductSet, 
 {
     let domains = domains_of(alloc, file.variables())?;
     let mut store = Store::new(alloc, domains.as_slice())?;
-    let set = set_of_rules(&mut store, file.variables(), file.rules())?;
-    if store.same_set(set, store.empty(0)) {
+    let all = words_of_rules(&mut store, file.variables(), file.rules())?;
+    let made = all.stored(alloc)?;
+    if made.store.same_set(made.set, made.store.empty(0)) {
         return Err(BuildFault::NoProduct);
     }
-    Ok(ProductSet { store, set })
+    Ok(made)
 }
 
 /// How many values each variable has.

@@ -81,10 +81,13 @@ module _ (store : Store) (layer : ℕ) (first : Layer) (layers below : List Laye
 
     pub extends_over : Extends store layer (first ∷ layers) (grown ∷ below) pairs
     extends_over = record {
-      layered = (record {
-        two = (let t = h.0.two in let c = g.count_is in omega arith);
-        columns = λ value d lt. subst (IsColumn grown.count (place_count below)) (get_or_default grown.columns.items value [] d lt) (grown_column value (let w = g.width in omega arith));
-      }, e.layered);
+      layered = (
+        record {
+          two = (let t = h.0.two in let c = g.count_is in omega arith);
+          columns = λ value d lt. subst (IsColumn grown.count (place_count below)) (get_or_default grown.columns.items value [] d lt) (grown_column value (let w = g.width in omega arith));
+        },
+        e.layered,
+      );
       domains_are = λ i. g.width i ∷ e.domains_are i;
       count_is = g.count_is;
       places = record { kept = kept; met = met };
@@ -140,10 +143,13 @@ module _ (store : Store) (layer : ℕ) (first : Layer) (layers below : List Laye
 
     pub cut_narrows : Narrows store set (first ∷ layers) (cut ∷ below)
     cut_narrows = record {
-      layered = (record {
-        two = (let t = h.0.two in let c = g.count_is in omega arith);
-        columns = λ value d lt. subst (IsColumn cut.count (place_count below)) (get_or_default cut.columns.items value [] d lt) (cut_column value (let w = g.width in omega arith));
-      }, e.layered);
+      layered = (
+        record {
+          two = (let t = h.0.two in let c = g.count_is in omega arith);
+          columns = λ value d lt. subst (IsColumn cut.count (place_count below)) (get_or_default cut.columns.items value [] d lt) (cut_column value (let w = g.width in omega arith));
+        },
+        e.layered,
+      );
       domains_are = λ i. g.width i ∷ e.domains_are i;
       count_is = g.count_is;
       words = words;

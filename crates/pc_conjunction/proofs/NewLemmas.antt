@@ -110,3 +110,8 @@ new_conjunction sizes layers some few all h =
       sizes = subst (All IsDomain) (sym same) all;
       layered = new_layered sizes layers h;
     }
+
+pub among_words : (a b : Bool) → (b ≡ true → a ≡ true) → (a && b) ≡ b
+among_words true b f = refl
+among_words false true f = f refl
+among_words false false f = refl

@@ -3,6 +3,7 @@
 ghost use Rattle.std.specs.Prelude.{◌≡◌, ◌<◌, ◌≤◌, ◌&&◌, ℕ, List, length, reverse, All, IfOk};
 ghost use Rattle.pc_diagram.specs.Rests.{size};
 ghost use Rattle.pc_diagram.specs.Words.{is_word};
+ghost use Rattle.pc_store.specs.Layered.{IsDomain};
 ghost use Rattle.pc_store.specs.Sets.{domains_of, IsIdAt, has};
 
 use crate::layer::Layer;
@@ -36,11 +37,22 @@ impl Model for Conjunction {
 }
 
 impl Conjunction {
-    ghost use Rattle.pc_store.specs.Layered.{IsDomain};
     ghost use Rattle.pc_conjunction.specs.Conjunctions.{conjunction_domains, contains};
 
+    /// The words of a set alone.
+    pub fn of(store: &Store, set: Id) -> Result<Conjunction, NoMemory>
+        requires { IsIdAt store.now 0 set }
+        ensures domains { IfOk result (λ all. conjunction_domains all ≡ domains_of store.now) }
+        ensures words { IfOk result (λ all. (word : List ℕ) → contains all word ≡ has store.now set word) }
+    {
+        let domains = domains_of(store)?;
+        let all = Conjunction::new(store.allocator(), domains.as_slice())?;
+        let narrowed = all.narrowed(store, set)?;
+        Ok(narrowed)
+    }
+
     /// All words over variables that take so many values, from 1 to 64, in order.
-    pub fn new(alloc: Global, domains: &[u32]) -> Result<Conjunction, NoMemory>
+    fn new(alloc: Global, domains: &[u32]) -> Result<Conjunction, NoMemory>
         requires some { 0 < length domains.now }
         requires few { length domains.now ≤ MOST_VARIABLES }
         requires sizes { All IsDomain domains.now }
@@ -87,4 +99,18 @@ impl Conjunction {
         let stored = stored_layers(alloc, self.layers.as_slice())?;
         Ok(stored)
     }
+}
+
+/// How many values each variable of a store takes.
+fn domains_of(store: &Store) -> Result<Sequence<u32>, NoMemory>
+    ensures domains { IfOk result (λ domains. domains ≡ domains_of store.now) }
+    ensures some { IfOk result (λ domains. 0 < length domains) }
+    ensures few { IfOk result (λ domains. length domains ≤ MOST_VARIABLES) }
+    ensures sizes { IfOk result (λ domains. All IsDomain domains) }
+{
+    let mut domains = Sequence::new(store.allocator());
+    for layer in 0..store.variables() {
+        domains.push(store.domain(layer))?;
+    }
+    Ok(domains)
 }

@@ -54,7 +54,10 @@ impl Layer {
             let column = &mut self.columns[value as usize];
             add_entries(column, store, layer, value, pairs, count, next)?;
         }
-        self.count = self.count.checked_add(number(pairs.len())?).ok_or(NoMemory)?;
+        self.count = self
+            .count
+            .checked_add(number(pairs.len())?)
+            .ok_or(NoMemory)?;
         Ok(())
     }
 

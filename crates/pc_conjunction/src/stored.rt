@@ -30,7 +30,10 @@ pub(crate) fn stored_layers(alloc: Global, layers: &[Layer]) -> Result<Stored, N
     let domains = values_of(alloc, layers)?;
     let mut store = Store::new(alloc, domains.as_slice())?;
     let sets = sets_of_places(&mut store, 0, layers)?;
-    Ok(Stored { store, set: sets.as_slice()[1] })
+    Ok(Stored {
+        store,
+        set: sets.as_slice()[1],
+    })
 }
 
 /// How many values the variable of each layer takes. The layer of the last variable stands first.
@@ -47,11 +50,7 @@ fn values_of(alloc: Global, layers: &[Layer]) -> Result<Sequence<u32>, NoMemory>
 }
 
 /// The set of each place of the first of these layers. The layer of the last variable stands first.
-fn sets_of_places(
-    store: &mut Store,
-    layer: u32,
-    layers: &[Layer],
-) -> Result<Sequence<Id>, NoMemory>
+fn sets_of_places(store: &mut Store, layer: u32, layers: &[Layer]) -> Result<Sequence<Id>, NoMemory>
     requires layer { layer + length layers.now ≡ length (domains_of store.old) }
     requires few { length (domains_of store.old) ≤ MOST_VARIABLES }
     requires below { IsBelow store.old layer (place_count (reverse layers.now)) (reverse layers.now) }

@@ -44,7 +44,7 @@ append-requires t c =
     let more = c.in_ok-add_pairs-in-Some.ensures.next in
     let none : ArePairs store (c.args.layer + 1) c.count_of.result c.new-next.result.keys = subst (ArePairs store (c.args.layer + 1) c.count_of.result) (sym {A = List Pair} c.new-next.ensures.empty) (λ i pair at. absurd cc) in
     let pairs : ArePairs store (c.args.layer + 1) (place_count (reverse rest)) c.as_slice.result.now =
-        subst (λ n. ArePairs store (c.args.layer + 1) n c.as_slice.result.now) c.count_of.ensures (subst (ArePairs store (c.args.layer + 1) c.count_of.result) (sym {A = List Pair} c.as_slice.ensures.keys) (more.valid none)) in
+    subst (λ n. ArePairs store (c.args.layer + 1) n c.as_slice.result.now) c.count_of.ensures (subst (ArePairs store (c.args.layer + 1) c.count_of.result) (sym {A = List Pair} c.as_slice.ensures.keys) (more.valid none)) in
     (omega arith, (omega arith, (few, (rest_below store c.args.layer first.count first (reverse rest) below, (pairs, λ end. c.as_slice.ensures.keys ∙ more.at_end end ∙ c.new-next.ensures.empty)))))
 
 pub returns-in_ok-push-in-Some : goal.returns-in_ok-push-in-Some

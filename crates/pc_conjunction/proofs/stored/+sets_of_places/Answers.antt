@@ -32,6 +32,6 @@ returns-in_ok-over-in-Some-clause-sets t c =
     let e : reverse c.args.layers.now ≡ first ∷ reverse rest = ap {A = List Layer} reverse c.in-Some.ensures.cases.0 ∙ reverse_push rest first in
     let below : IsBelow c.args.store.now layer first.count (first ∷ reverse rest) = subst (λ (ls : List Layer). IsBelow c.args.store.now layer (place_count ls) ls) e c.requires.below in
     let over : AreOver mid now layer first.columns.items c.in_ok-sets-in-Some.sets first.count c.in_ok-over-in-Some.over =
-        subst (λ (columns : List (List ℕ)). AreOver mid now layer columns c.in_ok-sets-in-Some.sets first.count c.in_ok-over-in-Some.over) c.as_slice-columns.ensures.value
-        (subst (λ (ids : List Id). AreOver mid now layer c.as_slice-columns.result.now ids first.count c.in_ok-over-in-Some.over) c.as_slice.ensures c.in_ok-over-in-Some.ensures.sets) in
+    subst (λ (columns : List (List ℕ)). AreOver mid now layer columns c.in_ok-sets-in-Some.sets first.count c.in_ok-over-in-Some.over) c.as_slice-columns.ensures.value
+    (subst (λ (ids : List Id). AreOver mid now layer c.as_slice-columns.result.now ids first.count c.in_ok-over-in-Some.over) c.as_slice.ensures c.in_ok-over-in-Some.ensures.sets) in
     subst (λ (ls : List Layer). ArePlaces now layer ls c.in_ok-over-in-Some.over) (sym e) (places_over mid now layer first (reverse rest) c.in_ok-sets-in-Some.sets c.in_ok-over-in-Some.over below.layered c.in_ok-sets-in-Some.ensures.sets over)

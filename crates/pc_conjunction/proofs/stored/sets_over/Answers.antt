@@ -28,7 +28,7 @@ loop-place-preserved c =
     let known = goes_all old (c.args.layer + 1) c.args.count c.args.columns.now c.args.below.now place c.requires.below c.requires.columns (let test = c.loop-place-test.true in test) in
     let children : c.as_slice.result.now ≡ goes_on c.args.columns.now c.args.below.now place = c.as_slice.ensures.value ∙ c.in_ok-pick.ensures in
     let words : (word : List ℕ) → has now c.in_ok-node.field-0 word ≡ leads mid (goes_on c.args.columns.now c.args.below.now place) word =
-        subst (λ (ids : List Id). (word : List ℕ) → has now c.in_ok-node.field-0 word ≡ leads mid ids word) children c.in_ok-node.ensures.set in
+    subst (λ (ids : List Id). (word : List ℕ) → has now c.in_ok-node.field-0 word ≡ leads mid ids word) children c.in_ok-node.ensures.set in
     record {
       keeps = keeps_then old mid now c.loop-place.invariant.keeps c.node.ensures.keeps;
       over = subst (AreOver old now c.args.layer c.args.columns.now c.args.below.now (place + 1)) (sym {A = List Id} c.in_ok-push.ensures.ok)

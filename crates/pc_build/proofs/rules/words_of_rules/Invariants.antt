@@ -1,9 +1,9 @@
 use Rattle.pc_store.specs.Sets.{Keeps}
 use Rattle.pc_build.specs.Building.{Joined}
-use Rattle.pc_build.proofs.rules.set_of_rules.Given as goal
+use Rattle.pc_build.proofs.rules.words_of_rules.Given as goal
 
 abbrev pub invariant-loop-place : goal.invariant-loop-place
 invariant-loop-place l = record {
-  joined : Joined l.store l.variables l.rules l.place l.set;
+  joined : Joined l.variables l.rules l.place l.joint.all;
   keeps : Keeps l.fn.store l.store;
 }
