@@ -1,6 +1,6 @@
 //! The compiler from rules to diagrams. `compile` answers the version of a file, which has the canonical diagram of its
 //! products, or says exactly which set on the way is the first that is too large, or that there is no product. The sets
-//! are made in a store, part by part, by the definition of when a rule holds.
+//! of rules are made in a store, part by part, by the definition of when a rule holds, and joined in a conjunction.
 #![tactic(auto)]
 
 mod building;
