@@ -1,7 +1,7 @@
 //! Diagrams of files.
 
 use anyhow::Result;
-use pc_build::{Version, compile};
+use pc_build::{BuildFault, Version, compile};
 use pc_file::SharedFile;
 use pc_text::read_file;
 use std::fs;
@@ -15,15 +15,30 @@ const PRODUCTS: &[&str] = &[
 /// Prints of each stored product how many nodes the layers of its diagram have, or why it has none.
 pub fn tell_forms(rt: &HostRuntime) -> Result<()> {
     for name in PRODUCTS {
-        let path = format!(in rt.alloc(); "{name}.product")?;
-        let text = fs::read_to_string(rt, path.as_str())?;
-        let file = SharedFile::new(rt.alloc(), read_file(rt.alloc(), text.as_bytes())?)?;
-        print!(rt; "{name}:")?;
-        match compile(rt.alloc(), file) {
-            Ok(version) => tell_nodes(rt, &version)?,
-            Err(fault) => println!(rt; " {fault}")?,
-        }
+        tell_form(rt, name)?;
     }
+    Ok(())
+}
+
+fn tell_form(rt: &HostRuntime, name: &str) -> Result<()> {
+    let file = stored_file(rt, name)?;
+    print!(rt; "{name}:")?;
+    match compile(rt.alloc(), file) {
+        Ok(version) => tell_nodes(rt, &version),
+        Err(fault) => tell_fault(rt, fault),
+    }
+}
+
+/// The file of this name.
+fn stored_file(rt: &HostRuntime, name: &str) -> Result<SharedFile> {
+    let path = format!(in rt.alloc(); "{name}.product")?;
+    let text = fs::read_to_string(rt, path.as_str())?;
+    let file = read_file(rt.alloc(), text.as_bytes())?;
+    Ok(SharedFile::new(rt.alloc(), file)?)
+}
+
+fn tell_fault(rt: &HostRuntime, fault: BuildFault) -> Result<()> {
+    println!(rt; " {fault}")?;
     Ok(())
 }
 
