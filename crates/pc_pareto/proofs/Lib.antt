@@ -1,6 +1,12 @@
+pub mod ArrivalLemmas
 pub mod ItemLemmas
 pub mod FrontLemmas
 pub mod OrderLemmas
+pub mod NumberLemmas
 pub mod OfferLemmas
 pub mod PairLemmas
+pub mod PassLemmas
+pub mod SideLemmas
+pub mod StageLemmas
 pub mod SweepLemmas
+pub mod WholeLemmas

@@ -1,4 +1,12 @@
+pub mod Arrivals
 pub mod BikeFronts
+pub mod Bounds
+pub mod Faults
 pub mod Front
+pub mod Fronts
+pub mod FrontsView
 pub mod Items
 pub mod Lists
+pub mod Numbered
+pub mod Pass
+pub mod Stages

@@ -1,12 +1,15 @@
 //! A front that grows item by item.
 
-ghost use Rattle.std.specs.Prelude.{◌≡◌, List, [], ◌∷◌, ◌++◌, OnOk, IfOk, OnErr};
+ghost use Rattle.std.specs.Prelude.{◌≡◌, List, [], ◌∷◌, ◌++◌, map, OnOk, IfOk, OnErr};
 ghost use Rattle.std.specs.List.{list_any};
+ghost use Rattle.std.specs.List.Sorted.{IsNonDecreasing};
 ghost use Rattle.pc_pareto.specs.declared.front_item.FrontItem.{FrontItem};
-ghost use Rattle.pc_pareto.specs.Items.{covers, IsFrontOfOffered};
+ghost use Rattle.pc_pareto.specs.Numbered.{with_rank, count_below};
+ghost use Rattle.pc_pareto.specs.Items.{covers, IsFrontOf, IsFrontOfOffered};
 
 use crate::back::Back;
 use crate::front_item::FrontItem;
+use crate::number::count_below;
 use crate::sweep::push_front;
 use pc_base::NoMemory;
 use std::alloc::Global;
@@ -37,6 +40,41 @@ impl Front {
         Front {
             items: Vec::new(alloc),
         }
+    }
+
+    /// The front of items, in no more room than it needs.
+    pub(crate) fn of(alloc: Global, mut offered: Vec<FrontItem>) -> Result<Front, NoMemory>
+        ensures { IfOk result (λ front. IsFrontOf offered.items front) }
+    {
+        let mut kept = Vec::new(alloc);
+        push_front(&mut kept, &mut offered)?;
+        Ok(Front {
+            items: Vec::from_slice(alloc, kept.as_slice())?,
+        })
+    }
+
+    pub(crate) fn of_items(items: Vec<FrontItem>) -> Front
+        ensures { result ≡ items.items }
+    {
+        Front { items }
+    }
+
+    /// The same items, where the rank of each is how many of some ranks in order are less than its own.
+    pub(crate) fn with_ranks(&self, alloc: Global, ranks: &[u64]) -> Result<Front, NoMemory>
+        requires { IsNonDecreasing ranks.now }
+        ensures { IfOk result (λ front. front ≡ map (with_rank (count_below ranks.now)) self.now) }
+    {
+        let mut items = Vec::with_capacity(alloc, self.items.len())?;
+        for item in self.items.as_slice() {
+            items.push(FrontItem {
+                back: Back {
+                    rank: count_below(ranks, item.back.rank),
+                    ..item.back
+                },
+                ..*item
+            })?;
+        }
+        Ok(Front { items })
     }
 
     /// The items, by first cost.

@@ -3,12 +3,23 @@
 //! is refused exactly at its limit.
 #![tactic(auto)]
 
+mod arrival;
+mod arrivals;
 mod back;
 mod front;
+mod front_fault;
 mod front_item;
+mod fronts;
 pub mod laws;
+mod limits;
+mod number;
+mod pass;
+mod run;
+mod stage;
 mod sweep;
 
 pub use back::Back;
 pub use front::Front;
+pub use front_fault::FrontFault;
 pub use front_item::FrontItem;
+pub use fronts::{Fronts, front_heads, front_tails};
