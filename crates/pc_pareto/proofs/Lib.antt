@@ -6,6 +6,7 @@ pub mod NumberLemmas
 pub mod OfferLemmas
 pub mod PairLemmas
 pub mod PassLemmas
+pub mod PathSteps
 pub mod SideLemmas
 pub mod StageLemmas
 pub mod SweepLemmas

@@ -6,6 +6,7 @@ pub mod Front
 pub mod Fronts
 pub mod FrontsView
 pub mod Items
+pub mod Joined
 pub mod Lists
 pub mod Numbered
 pub mod Pass

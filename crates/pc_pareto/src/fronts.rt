@@ -6,16 +6,17 @@ ghost use Rattle.pc_diagram.specs.NodePaths.{AreCostsOf, AreChoicesOf};
 ghost use Rattle.pc_pareto.specs.declared.limits.TheConstants.{MOST_LABELS};
 ghost use Rattle.pc_pareto.specs.Arrivals.{slots_from};
 ghost use Rattle.pc_pareto.specs.Faults.{IsFaultAt, IsLimitOf};
-ghost use Rattle.pc_pareto.specs.Fronts.{items_at, item_at, limit_at};
-ghost use Rattle.pc_pareto.specs.FrontsView.{stages_of, distance_of, IsFrontsOf};
+ghost use Rattle.pc_pareto.specs.Fronts.{items_at, item_at, limit_at, word_at};
+ghost use Rattle.pc_pareto.specs.FrontsView.{side_of, stages_of, distance_of, IsFrontsOf};
 ghost use Rattle.pc_pareto.specs.Items.{pair_of};
 
 use crate::front::Front;
 use crate::front_fault::FrontFault;
 use crate::front_item::FrontItem;
 use crate::pass::{finish, first_stages};
-use pc_base::Sequence;
-use pc_diagram::{Choices, Costs, Diagram, Side, Steps};
+use crate::path::path_of;
+use pc_base::{NoMemory, Sequence};
+use pc_diagram::{Choices, Costs, Diagram, Side, Steps, Word};
 use std::alloc::Global;
 use std::sync::ledger::Ledger;
 
@@ -36,10 +37,7 @@ impl Fronts {
         requires node { node < length (slice_index_or (stages_of self.now) (distance_of self.now layer) []) }
         ensures { result.now ≡ items_at (stages_of self.now) (distance_of self.now layer) node }
     {
-        let distance = match self.side {
-            Side::Heads => layer as usize,
-            Side::Tails => self.stages.len() - 1 - layer as usize,
-        };
+        let distance = self.distance(layer);
         self.stages.as_slice()[distance].as_slice()[node as usize].as_slice()
     }
 
@@ -62,6 +60,37 @@ impl Fronts {
     {
         let item = &self.items(layer, node)[place as usize];
         (item.first, item.second)
+    }
+
+    /// The first word, by value positions, that leads to a node from the root, or from it to the end, and has a pair of its
+    /// front.
+    pub fn path(&self, alloc: Global, layer: u32, node: u32, place: u64) -> Result<Word, NoMemory>
+        requires layer { layer < length (stages_of self.now) }
+        requires node { node < length (slice_index_or (stages_of self.now) (distance_of self.now layer) []) }
+        requires place { place < length (items_at (stages_of self.now) (distance_of self.now layer) node) }
+        ensures { IfOk result (λ word. word ≡ word_at (side_of self.now) (stages_of self.now) (distance_of self.now layer)
+            (item_at (stages_of self.now) (distance_of self.now layer) node place)) }
+    {
+        let item = &self.items(layer, node)[place as usize];
+        path_of(
+            alloc,
+            self.side,
+            self.stages.as_slice(),
+            self.distance(layer),
+            item,
+        )
+    }
+
+    /// How far a layer is from the end of the side.
+    fn distance(&self, layer: u32) -> usize
+        requires { layer < length (stages_of self.now) }
+        ensures is { result ≡ distance_of self.now layer }
+        ensures within { result < length (stages_of self.now) }
+    {
+        match self.side {
+            Side::Heads => layer as usize,
+            Side::Tails => self.stages.len() - 1 - layer as usize,
+        }
     }
 
     /// The rank of the path with a pair among all paths of the layer: it compares as these do by value positions.

@@ -14,6 +14,7 @@ pub mod laws;
 mod limits;
 mod number;
 mod pass;
+mod path;
 mod run;
 mod stage;
 mod sweep;
