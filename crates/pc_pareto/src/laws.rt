@@ -1,10 +1,14 @@
 //! Laws of fronts.
 
-ghost use Rattle.std.specs.Prelude.{◌≡◌, List, map};
+ghost use Rattle.std.specs.Prelude.{◌≡◌, [], ◌∷◌, List, map, Some, None};
 ghost use Rattle.pc_diagram.specs.declared.costs.CostPair.{CostPair};
 ghost use Rattle.pc_pareto.specs.declared.front_item.FrontItem.{FrontItem};
+ghost use Rattle.pc_diagram.specs.Bike.{bike_costs};
+ghost use Rattle.pc_diagram.specs.BikeDiagram.{bike_diagram};
+ghost use Rattle.pc_diagram.specs.declared.side.Side.TheVariants.{Heads, Tails};
 ghost use Rattle.pc_pareto.specs.BikeFronts.{bike_pairs, bike_front, offered_items, kept_items};
 ghost use Rattle.pc_pareto.specs.Front.{front, IsFront};
+ghost use Rattle.pc_pareto.specs.Fronts.{front_of_node, sizes_from, limit_at};
 ghost use Rattle.pc_pareto.specs.Items.{pair_of, IsFrontOf, IsFrontOfOffered};
 
 /// A list of pairs has one front: what falls by second cost as it rises by first cost, is taken of the list, and has for
@@ -20,4 +24,16 @@ pub fn a_list_has_one_front()
 pub fn bikes_have_two_pairs()
     ensures front { front bike_pairs ≡ bike_front }
     ensures offered { IsFrontOfOffered offered_items kept_items }
+{}
+
+/// The fronts of the bikes' nodes, by evaluation: how many pairs each layer has, from either end; the pairs at the last
+/// layer; and where so many pairs are too many.
+pub fn bikes_have_fronts_at_each_node()
+    ensures heads { sizes_from Heads bike_diagram bike_costs [] ≡ 1 ∷ 3 ∷ 2 ∷ 2 ∷ [] }
+    ensures tails { sizes_from Tails bike_diagram bike_costs [] ≡ 1 ∷ 2 ∷ 3 ∷ 2 ∷ [] }
+    ensures last { front_of_node Heads bike_diagram bike_costs [] 3 0 ≡ bike_front }
+    ensures root { front_of_node Tails bike_diagram bike_costs [] 0 0 ≡ bike_front }
+    ensures few { limit_at 3 Heads bike_diagram bike_costs [] ≡ Some 1 }
+    ensures more { limit_at 3 Tails bike_diagram bike_costs [] ≡ Some 2 }
+    ensures enough { limit_at 8 Heads bike_diagram bike_costs [] ≡ None }
 {}
