@@ -1,6 +1,6 @@
 pub mod CheckLemmas
 pub mod DumpLemmas
-pub mod OutcomeLemmas
+pub mod ListLemmas
 pub mod ScriptEnds
 pub mod StatusLemmas
 pub mod ToldLemmas

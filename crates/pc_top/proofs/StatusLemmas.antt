@@ -1,5 +1,5 @@
 -- Which statuses a job has.
-use Rattle.std.proofs.Common.{◌≡◌, ℕ}
+use Rattle.std.proofs.Common.{◌≡◌}
 use Rattle.pc_io.specs.Ends.{Ends}
 use Rattle.pc_script.specs.declared.script_end.ScriptEnd.{ScriptEnd}
 use Rattle.pc_script.specs.declared.script_end.ScriptEnd.TheVariants as end
@@ -20,9 +20,9 @@ no_script end.NoMemory is = absurd cc
 
 -- no job says that the words are wrong
 no_job : (asked : Form) (before after : Ends) → Does asked WrongWords before after → ⊥
-no_job form.List before after does = does.0
-no_job form.Dump before after does = does
-no_job form.Check before after does = does.0
+no_job form.List before after does = does.leaves
+no_job form.Dump before after does = does.leaves
+no_job form.Check before after does = does.leaves
 no_job form.Script before after does = no_script does.end does.status_is
 
 pub not_two : (asked : Form) (status : Status) (before after : Ends) → Does asked status before after → code status ≡ 2 → ⊥

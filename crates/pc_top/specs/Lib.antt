@@ -1,12 +1,11 @@
 pub mod CheckMeans
-pub mod CheckOutcome
 pub mod Does
 pub mod DumpMeans
+pub mod JobMeans
 pub mod ListMeans
 pub mod ListReply
+pub mod Outcome
 pub mod Reply
 pub mod ScriptStatus
 pub mod Status
-pub mod TextMeans
-pub mod TextOutcome
 pub mod Words

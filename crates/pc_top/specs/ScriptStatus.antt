@@ -1,5 +1,5 @@
 -- How the program ends where a script does.
-use Rattle.std.specs.Prelude.{◌≡◌, List, ℕ, Option, Some, None, IfSome}
+use Rattle.std.specs.Prelude.{◌≡◌, Option, Some, None, IfSome}
 use Rattle.pc_io.specs.Ends.{Ends}
 use Rattle.pc_io.specs.declared.line_fault.LineFault.{LineFault}
 use Rattle.pc_script.specs.declared.script_end.ScriptEnd.{ScriptEnd}
@@ -7,7 +7,7 @@ use Rattle.pc_script.specs.declared.script_end.ScriptEnd.TheVariants as end
 use Rattle.pc_script.specs.ScriptOutcome.{Leaves, broken}
 use Rattle.pc_top.specs.declared.status.Status.{Status}
 use Rattle.pc_top.specs.declared.status.Status.TheVariants.{Done, ReadFault, WriteFault, NoMemory, TooLong}
-use Rattle.pc_top.specs.Status.{IsCalledFor}
+use Rattle.pc_top.specs.Status.{UnlessFailed}
 
 -- the status of each end
 abbrev pub status_after : ScriptEnd → Status
@@ -28,4 +28,4 @@ pub record RunsScript (status : Status) (before after : Ends) : Type 0 where
   pub end : ScriptEnd
   pub status_is : status ≡ status_after end
   pub leaves : Leaves end before after
-  pub called_for : IfSome before.rest (λ bytes. IsCalledFor (status_by (broken bytes)) status)
+  pub called_for : IfSome before.rest (λ bytes. UnlessFailed status (status ≡ status_by (broken bytes)))

@@ -7,19 +7,21 @@ ghost use Rattle.pc_top.specs.declared.status.Status.TheVariants.{ReadFault, Wri
 ghost use Rattle.pc_top.specs.Does.{Does, Exits};
 ghost use Rattle.pc_top.specs.Words.{form_of};
 
-use crate::checking::check;
 use crate::form::Form;
+use crate::job::{Job, answer};
 use crate::script::script;
 use crate::status::Status;
-use crate::text_job::{TextJob, answer_text};
 use pc_io::{Sink, Source};
 use std::alloc::Global;
 
 /// Does the job that the words of the command line name, and gives the exit status.
 ///
 /// `list` reads a product text and writes its listing without choices and bounds, and a line `.`; `dump` writes the text
-/// of its diagram. A line of a product text has at most 65,536 bytes, and all of it at most 1,048,576. `script` reads lines of commands and writes the
-/// answer to each before it waits for the next; a line has at most 65,536 bytes, and all of them at most 16,777,216.
+/// of its diagram; `check` reads the text of a diagram and writes how many nodes and edges that has. `script` reads lines
+/// of commands and writes the answer to each before it waits for the next.
+///
+/// A line has at most 65,536 bytes; a product text at most 1,048,576, a diagram's text at most 134,217,728, and all lines
+/// of commands together at most 16,777,216.
 pub fn run<S: Source, K: Sink>(
     alloc: Global,
     words: &Vec<Vec<u8>>,
@@ -50,7 +52,6 @@ pub fn run<S: Source, K: Sink>(
 }
 
 /// Does the job of a form.
-#[tactic(auto, using(crate::proofs::OutcomeLemmas::lists))]
 fn do_form<S: Source, K: Sink>(alloc: Global, form: Form, source: &mut S, sink: &mut K) -> Status
     ensures does { let seen = ends S.rest S.read_faults K.written K.write_faults in
         Does form result (seen source.old sink.old) (seen source.new sink.new) }
@@ -62,9 +63,9 @@ fn do_form<S: Source, K: Sink>(alloc: Global, form: Form, source: &mut S, sink: 
     ensures write_aside { K.write_aside sink.new ≡ K.write_aside sink.old }
 {
     match form {
-        Form::List => answer_text(alloc, TextJob::List, source, sink),
-        Form::Dump => answer_text(alloc, TextJob::Dump, source, sink),
-        Form::Check => check(alloc, source, sink),
+        Form::List => answer(alloc, Job::List, source, sink),
+        Form::Dump => answer(alloc, Job::Dump, source, sink),
+        Form::Check => answer(alloc, Job::Check, source, sink),
         Form::Script => script(alloc, source, sink),
     }
 }

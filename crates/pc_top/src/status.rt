@@ -1,7 +1,9 @@
 //! How the program ends.
 
 ghost use Rattle.std.specs.Prelude.{◌≡◌};
-ghost use Rattle.pc_top.specs.Status.{code};
+ghost use Rattle.pc_top.specs.Status.{code, status_after_fault};
+
+use pc_io::LineFault;
 
 /// How the program ends; its number is the exit status.
 #[derive(Clone, Copy, Debug, PartialEq, Eq)]
@@ -35,6 +37,17 @@ impl Status {
             Status::WriteFault => 5,
             Status::NoMemory => 6,
             Status::TooLong => 7,
+        }
+    }
+
+    /// The status after a fault of reading.
+    pub fn after_fault(fault: LineFault) -> Status
+        ensures { result ≡ status_after_fault fault }
+    {
+        match fault {
+            LineFault::ReadFault => Status::ReadFault,
+            LineFault::LineTooLong | LineFault::TotalTooLong => Status::TooLong,
+            LineFault::NoMemory => Status::NoMemory,
         }
     }
 }

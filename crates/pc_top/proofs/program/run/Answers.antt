@@ -1,4 +1,4 @@
-use Rattle.std.proofs.Common.{◌≡◌, None, Some, sym, ◌∙◌}
+use Rattle.std.proofs.Common.{sym, ◌∙◌}
 use Rattle.pc_top.proofs.StatusLemmas.{not_two}
 use Rattle.pc_top.proofs.program.run.Goals as goal
 

@@ -1,4 +1,3 @@
-use Rattle.pc_build.specs.Building.{IsBuildFault}
 use Rattle.pc_top.proofs.DumpLemmas.{means_dumped, means_empty, means_too_large}
 use Rattle.pc_top.proofs.reply.Reply.to_dump.Goals as goal
 

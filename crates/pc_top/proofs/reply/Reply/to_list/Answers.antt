@@ -1,4 +1,4 @@
-use Rattle.pc_top.proofs.OutcomeLemmas.{means_listed}
+use Rattle.pc_top.proofs.ListLemmas.{means_listed}
 use Rattle.pc_top.proofs.reply.Reply.to_list.Goals as goal
 
 pub returns-in-Ok-plain_products-clause-means : goal.returns-in-Ok-plain_products-clause-means
