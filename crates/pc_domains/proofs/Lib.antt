@@ -1,5 +1,7 @@
 pub mod AgreeLemmas
 pub mod FitLemmas
+pub mod FrontPathLemmas
+pub mod FrontSides
 pub mod ItemLemmas
 pub mod JoinLemmas
 pub mod ListedLemmas

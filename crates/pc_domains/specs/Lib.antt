@@ -1,3 +1,4 @@
+pub mod FrontPaths
 pub mod Joins
 pub mod Orders
 pub mod Sides

@@ -1,16 +1,21 @@
 //! Laws of the definitions. Each function's contract is a law; nothing calls them.
 
-ghost use Rattle.std.specs.Prelude.{◌≡◌, ℕ, List, [], Contains, Option, Some, None, true, false};
+ghost use Rattle.std.specs.Prelude.{◌≡◌, ℕ, ◌+◌, ◌-◌, List, [], length, Contains, Option, Some, None, true, false};
 ghost use Rattle.pc_diagram.specs.declared.bounds.Bounds.{Bounds};
 ghost use Rattle.pc_diagram.specs.declared.choice.Choice.{Choice};
 ghost use Rattle.pc_diagram.specs.declared.costs.CostPair.{CostPair};
 ghost use Rattle.pc_diagram.specs.declared.raw_diagram.RawDiagram.{RawDiagram};
+ghost use Rattle.pc_diagram.specs.declared.side.Side.TheVariants.{Heads, Tails};
 ghost use Rattle.pc_diagram.specs.Bounds.{allows_pair};
 ghost use Rattle.pc_diagram.specs.Choices.{value_of};
+ghost use Rattle.pc_diagram.specs.Diagram.{IsCanonical};
 ghost use Rattle.pc_diagram.specs.Fitting.{fitting};
 ghost use Rattle.pc_diagram.specs.Listing.{listed};
 ghost use Rattle.pc_diagram.specs.NodePaths.{is_allowed, is_tail};
 ghost use Rattle.pc_diagram.specs.Paths.{words};
+ghost use Rattle.pc_pareto.specs.declared.front_item.FrontItem.{FrontItem};
+ghost use Rattle.pc_pareto.specs.Fronts.{AreFronts};
+ghost use Rattle.pc_domains.specs.FrontPaths.{kept_by_fronts};
 ghost use Rattle.pc_domains.specs.Orders.{IsAtMost, IsNoDearer};
 ghost use Rattle.pc_domains.specs.Sides.{AreDistinctOf, AreSides, IsAllowedWay, IsAsked, IsLeastWay, listed_of};
 ghost use Rattle.pc_domains.specs.Ways.{Keeps, Kept, Way, joined_word};
@@ -75,5 +80,36 @@ pub fn front_tells_whether_a_word_fits()
     ensures none { (raw : RawDiagram) (costs : List (List CostPair)) (choices : List Choice) (bounds : Bounds) (kept : ℕ → ℕ → Option Kept)
         → AreDistinctOf raw.domains choices → Keeps IsAtMost costs (is_tail raw choices 0) raw.domains 1 kept
         → ((place : ℕ) (path : Kept) → kept 0 place ≡ Some path → allows_pair bounds path.pair ≡ false)
+        → fitting costs (words raw) choices bounds ≡ [] }
+{}
+
+/// The fronts that both ends of a diagram have with the choices tell what is listed of a value: the word of the least way
+/// through an edge of it that the bounds allow, or nothing where they allow none.
+pub fn fronts_of_both_ends_tell_what_is_listed()
+    ensures listed { (raw : RawDiagram) (costs : List (List CostPair)) (choices : List Choice) (bounds : Bounds) (variable value : ℕ)
+        (heads tails : List (List (List FrontItem)))
+        (way : Way raw variable value (kept_by_fronts Heads heads variable) (kept_by_fronts Tails tails (length raw.domains - (variable + 1))))
+        → IsAsked raw costs choices variable value → AreFronts Heads raw costs choices heads → AreFronts Tails raw costs choices tails
+        → is_allowed (value_of choices variable) value ≡ true
+        → IsLeastWay raw costs bounds variable value (kept_by_fronts Heads heads variable) (kept_by_fronts Tails tails (length raw.domains - (variable + 1))) way
+        → listed_of raw costs choices bounds variable value ≡ Some (listed costs value (joined_word value way.head way.tail)) }
+    ensures unlisted { (raw : RawDiagram) (costs : List (List CostPair)) (choices : List Choice) (bounds : Bounds) (variable value : ℕ)
+        (heads tails : List (List (List FrontItem)))
+        → IsAsked raw costs choices variable value → AreFronts Heads raw costs choices heads → AreFronts Tails raw costs choices tails
+        → is_allowed (value_of choices variable) value ≡ true
+        → ((way : Way raw variable value (kept_by_fronts Heads heads variable) (kept_by_fronts Tails tails (length raw.domains - (variable + 1))))
+        → IsAllowedWay costs bounds way → ⊥)
+        → listed_of raw costs choices bounds variable value ≡ None }
+{}
+
+/// The front of the root's paths to the end tells whether some word fits.
+pub fn front_of_the_root_tells_whether_a_word_fits()
+    ensures fits { (raw : RawDiagram) (costs : List (List CostPair)) (choices : List Choice) (bounds : Bounds) (tails : List (List (List FrontItem))) (place : ℕ) (path : Kept)
+        → IsCanonical raw → AreDistinctOf raw.domains choices → AreFronts Tails raw costs choices tails
+        → kept_by_fronts Tails tails (length raw.domains) 0 place ≡ Some path → allows_pair bounds path.pair ≡ true
+        → Contains (fitting costs (words raw) choices bounds) path.path }
+    ensures none { (raw : RawDiagram) (costs : List (List CostPair)) (choices : List Choice) (bounds : Bounds) (tails : List (List (List FrontItem)))
+        → IsCanonical raw → AreDistinctOf raw.domains choices → AreFronts Tails raw costs choices tails
+        → ((place : ℕ) (path : Kept) → kept_by_fronts Tails tails (length raw.domains) 0 place ≡ Some path → allows_pair bounds path.pair ≡ false)
         → fitting costs (words raw) choices bounds ≡ [] }
 {}
