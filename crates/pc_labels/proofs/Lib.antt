@@ -1,0 +1,16 @@
+pub mod CountLemmas
+pub mod Extending
+pub mod GrowLemmas
+pub mod HeadsLayer
+pub mod HeadsSoFar
+pub mod KeptLemmas
+pub mod LayerLemmas
+pub mod LeastOf
+pub mod LessOrder
+pub mod RankLemmas
+pub mod Reranked
+pub mod SlotLemmas
+pub mod StepsBack
+pub mod TailsLayer
+pub mod TailsSoFar
+pub mod ViewLemmas

@@ -1,0 +1,9 @@
+pub mod AllowedSlots
+pub mod Growing
+pub mod Kept
+pub mod Labels
+pub mod Lesser
+pub mod Marks
+pub mod Ranks
+pub mod Slots
+pub mod SoFar
