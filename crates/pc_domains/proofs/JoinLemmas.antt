@@ -16,7 +16,8 @@ use Rattle.pc_pareto.specs.declared.front_item.FrontItem.{FrontItem}
 use Rattle.pc_pareto.specs.Front.{Falls}
 use Rattle.pc_pareto.specs.Items.{pair_of}
 use Rattle.pc_domains.specs.declared.join.Join.{Join}
-use Rattle.pc_domains.specs.Joins.{IsLeastJoin, is_less, joined, joined_at, lesser, lesser_of, no_item}
+use Rattle.pc_pareto.specs.Fronts.{no_item}
+use Rattle.pc_domains.specs.Joins.{IsLeastJoin, is_less, joined, joined_at, lesser, lesser_of}
 
 -- one pair costs more than another by the first cost, and less by the second
 pub record IsLater (pair later : CostPair) : Type 0 where
@@ -64,7 +65,7 @@ second_before items place other falls le inside = by (nat_lt place other) refl
 
 -- ---- one head more
 
-less_one_way : (a b : Ranked) → is_less a b ≡ true → is_less b a ≡ false
+pub less_one_way : (a b : Ranked) → is_less a b ≡ true → is_less b a ≡ false
 less_one_way a b h = grind (arith, ints, nat_tests)
 
 no_cheaper : (p q r : Bool) → (p || (not q && r)) ≡ false → p ≡ false
@@ -76,7 +77,7 @@ no_less_rank true q r h e = absurd cc
 no_less_rank false true r h e = absurd cc
 no_less_rank false false r h e = h
 
-less_chain : (a b c : Ranked) → is_less a b ≡ false → is_less b c ≡ false → is_less a c ≡ false
+pub less_chain : (a b c : Ranked) → is_less a b ≡ false → is_less b c ≡ false → is_less a c ≡ false
 less_chain a b c h k = by (is_cheaper c.pair a.pair) refl
   where
     first : is_cheaper a.pair b.pair ≡ false

@@ -1,9 +1,12 @@
 pub mod AgreeLemmas
 pub mod FitLemmas
+pub mod FrontListedLemmas
 pub mod FrontPathLemmas
 pub mod FrontSides
+pub mod FrontWayLemmas
 pub mod ItemLemmas
 pub mod JoinLemmas
+pub mod JoinableLemmas
 pub mod ListedLemmas
 pub mod OrderLemmas
 pub mod PartLemmas

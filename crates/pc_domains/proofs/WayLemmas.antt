@@ -74,7 +74,8 @@ module _ (no_more : CostPair → CostPair → Type 0) (order : AddsUp no_more) (
       ∙ ap (λ cs. plus_pair (cost_pair costs head) (cost_pair cs (value ∷ tail))) row
       ∙ ap (λ n. plus_pair (cost_pair costs head) (plus_pair price (cost_pair (drop n costs) tail))) (sym (add-one variable))
 
-  way_costs : (way : AWay) → cost_pair costs (way_word way) ≡ way_pair way
+  -- the word of a way costs what its parts cost
+  pub way_costs : (way : AWay) → cost_pair costs (way_word way) ≡ way_pair way
   way_costs way =
       three_parts way.head.path way.tail.path (length_head way)
       ∙ ap (λ p. plus_pair p (plus_pair price (cost_pair (drop (variable + 1) costs) way.tail.path))) (sym (heads.priced way.node way.head_place way.inside way.head way.head_is))

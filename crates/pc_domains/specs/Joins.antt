@@ -1,5 +1,5 @@
 -- Joins of two fronts over an edge.
-use Rattle.std.specs.Prelude.{◌≡◌, ℕ, ◌<◌, ℤ, pos, List, length, slice_index_or, Bool, true, false, if◌then◌else◌, Option, None, Some}
+use Rattle.std.specs.Prelude.{◌≡◌, ℕ, ◌<◌, ℤ, List, length, slice_index_or, Bool, true, false, if◌then◌else◌, Option, None, Some}
 use Rattle.pc_diagram.specs.declared.bounds.Bounds.{Bounds}
 use Rattle.pc_diagram.specs.declared.costs.CostPair.{CostPair}
 use Rattle.pc_diagram.specs.declared.weight.Ranked.{Ranked}
@@ -7,6 +7,7 @@ use Rattle.pc_diagram.specs.Bounds.{allows, allows_pair}
 use Rattle.pc_diagram.specs.Costs.{IsSum}
 use Rattle.pc_diagram.specs.Weight.{is_less_ranked, plus_pair}
 use Rattle.pc_pareto.specs.declared.front_item.FrontItem.{FrontItem}
+use Rattle.pc_pareto.specs.Fronts.{no_item}
 use Rattle.pc_pareto.specs.Items.{pair_of}
 use Rattle.pc_domains.specs.declared.join.Join.{Join}
 
@@ -14,10 +15,6 @@ use Rattle.pc_domains.specs.declared.join.Join.{Join}
 pub record IsSumPair (pair : CostPair) : Type 0 where
   pub first : IsSum pair.first
   pub second : IsSum pair.second
-
--- no item
-abbrev pub no_item : FrontItem
-no_item = record { first = pos 0; second = pos 0; back = record { node = 0; value = 0; place = 0; rank = 0 } }
 
 -- what two items and a value between them cost, and the rank of the head
 abbrev pub joined : CostPair → FrontItem → FrontItem → Ranked

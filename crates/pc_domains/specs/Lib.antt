@@ -1,4 +1,5 @@
 pub mod FrontPaths
+pub mod FrontWays
 pub mod Joins
 pub mod Orders
 pub mod Sides

@@ -5,7 +5,8 @@ ghost use Rattle.pc_diagram.specs.Bounds.{allows};
 ghost use Rattle.pc_diagram.specs.Costs.{IsPrice, IsPricePair, IsSum};
 ghost use Rattle.pc_pareto.specs.Front.{Falls};
 ghost use Rattle.pc_pareto.specs.Items.{pair_of};
-ghost use Rattle.pc_domains.specs.Joins.{IsLeastJoin, IsSumPair, is_less, joined, lesser, no_item};
+ghost use Rattle.pc_pareto.specs.Fronts.{no_item};
+ghost use Rattle.pc_domains.specs.Joins.{IsLeastJoin, IsSumPair, is_less, joined, lesser};
 
 use pc_diagram::{Bounds, CostPair, Ranked};
 use pc_pareto::FrontItem;
@@ -122,7 +123,7 @@ fn lesser(least: Option<Join>, join: Join, most: Option<i64>) -> Option<Join>
 }
 
 /// Whether one is less by first cost, or equal in that and less by second cost, or equal in both and less by rank.
-fn is_less(ranked: &Ranked, other: &Ranked) -> bool
+pub(crate) fn is_less(ranked: &Ranked, other: &Ranked) -> bool
     ensures { result ≡ is_less ranked.now other.now }
 {
     let (pair, beside) = (&ranked.pair, &other.pair);

@@ -1,8 +1,12 @@
-//! Boards: what a shopper's choices and bounds leave of each variable's values. So far what their listings stand on: the
-//! laws by which what is listed of a value is the least way through an edge of it, and the least join of two fronts.
+//! Boards: what a shopper's choices and bounds leave of each variable's values. So far what is listed of one value by the
+//! fronts of both ends, and the laws that listings stand on.
 #![tactic(auto)]
 
+mod front_listing;
+mod front_way;
 mod join;
 pub mod laws;
 
+pub use front_listing::listed_by_fronts;
+pub use front_way::{FrontWay, least_front_way};
 pub use join::{Join, least_join};

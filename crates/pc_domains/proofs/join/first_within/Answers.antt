@@ -1,8 +1,8 @@
 -- The bound is kept from a place on, and broken before it.
+use Rattle.pc_pareto.specs.Fronts.{no_item}
 use Rattle.std.proofs.Common.{rules, ◌≡◌, ◌<◌, ◌-◌, length, true, slice_index_or, ◌+ℤ◌, to_z, of_z, w64, ap, sym, ◌∙◌, arith}
 use Rattle.std.proofs.lemmas.Int.{ints}
 use Rattle.pc_diagram.specs.Bounds.{allows}
-use Rattle.pc_domains.specs.Joins.{no_item}
 use Rattle.pc_domains.proofs.JoinLemmas.{at_or_after, excludes_greater, second_before}
 use Rattle.pc_domains.proofs.join.first_within.Goals as goal
 

@@ -1,7 +1,7 @@
 -- From the place on the bound is kept.
+use Rattle.pc_pareto.specs.Fronts.{no_item}
 use Rattle.std.proofs.Common.{◌≡◌, ℕ, ◌<◌, ◌≤◌, length, true, slice_index_or, ◌+ℤ◌}
 use Rattle.pc_diagram.specs.Bounds.{allows}
-use Rattle.pc_domains.specs.Joins.{no_item}
 use Rattle.pc_domains.proofs.join.first_within.Given as goal
 
 abbrev pub invariant-loop-place : goal.invariant-loop-place

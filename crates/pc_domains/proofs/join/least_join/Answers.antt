@@ -2,7 +2,8 @@
 use Rattle.std.proofs.Common.{rules, ◌≡◌, ℕ, ◌+◌, ◌<◌, ◌≤◌, length, Bool, true, false, ◌&&◌, slice_index_or, ◌+ℤ◌, to_z, of_z, w64, refl, ap, sym, subst, ◌∙◌, arith}
 use Rattle.std.proofs.lemmas.Int.{ints}
 use Rattle.pc_diagram.specs.Bounds.{allows}
-use Rattle.pc_domains.specs.Joins.{IsLeastJoin, joined_at, lesser, no_item}
+use Rattle.pc_pareto.specs.Fronts.{no_item}
+use Rattle.pc_domains.specs.Joins.{IsLeastJoin, joined_at, lesser}
 use Rattle.pc_domains.proofs.JoinLemmas.{allows_lesser, falls_at, no_join, one_join}
 use Rattle.pc_domains.proofs.join.least_join.Goals as goal
 use Rattle.pc_domains.proofs.join.least_join.Goals.{then-place-tails, else-place-tails}

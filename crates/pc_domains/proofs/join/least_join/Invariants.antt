@@ -1,7 +1,8 @@
 -- From the place on all heads to come keep the bound on the second cost, and the least join so far is kept.
 use Rattle.std.proofs.Common.{◌≡◌, ℕ, ◌<◌, ◌≤◌, length, true, slice_index_or, ◌+ℤ◌}
 use Rattle.pc_diagram.specs.Bounds.{allows}
-use Rattle.pc_domains.specs.Joins.{IsLeastJoin, no_item}
+use Rattle.pc_pareto.specs.Fronts.{no_item}
+use Rattle.pc_domains.specs.Joins.{IsLeastJoin}
 use Rattle.pc_domains.proofs.join.least_join.Given as goal
 
 abbrev pub invariant-loop-number : goal.invariant-loop-number
