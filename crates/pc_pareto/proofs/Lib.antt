@@ -1,3 +1,4 @@
+pub mod AgainLemmas
 pub mod ArrivalLemmas
 pub mod ItemLemmas
 pub mod FrontLemmas

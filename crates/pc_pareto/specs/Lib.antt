@@ -1,3 +1,4 @@
+pub mod Again
 pub mod Arrivals
 pub mod BikeFronts
 pub mod Bounds
@@ -7,6 +8,7 @@ pub mod Fronts
 pub mod FrontsView
 pub mod Items
 pub mod Joined
+pub mod Kept
 pub mod Lists
 pub mod Numbered
 pub mod Pass

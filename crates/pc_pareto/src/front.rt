@@ -59,6 +59,15 @@ impl Front {
         Front { items }
     }
 
+    /// The same items.
+    pub(crate) fn copied(&self, alloc: Global) -> Result<Front, NoMemory>
+        ensures { IfOk result (λ front. front ≡ self.now) }
+    {
+        Ok(Front {
+            items: Vec::from_slice(alloc, self.items.as_slice())?,
+        })
+    }
+
     /// The same items, where the rank of each is how many of some ranks in order are less than its own.
     pub(crate) fn with_ranks(&self, alloc: Global, ranks: &[u64]) -> Result<Front, NoMemory>
         requires { IsNonDecreasing ranks.now }

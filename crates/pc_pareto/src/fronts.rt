@@ -1,10 +1,11 @@
 //! The fronts of all nodes of a diagram.
 
-ghost use Rattle.std.specs.Prelude.{◌≡◌, ◌<◌, ◌≤◌, ◌+◌, [], length, slice_index_or, None, OnOk, IfOk, IfErr};
+ghost use Rattle.std.specs.Prelude.{◌≡◌, ◌<◌, ◌≤◌, ◌+◌, ◌-◌, [], length, slice_index_or, None, OnOk, IfOk, IfErr};
 ghost use Rattle.pc_diagram.specs.declared.side.Side.TheVariants.{Heads, Tails};
 ghost use Rattle.pc_diagram.specs.NodePaths.{AreCostsOf, AreChoicesOf};
 ghost use Rattle.pc_pareto.specs.declared.limits.TheConstants.{MOST_LABELS};
-ghost use Rattle.pc_pareto.specs.Arrivals.{slots_from};
+ghost use Rattle.pc_pareto.specs.Again.{WereFrontsOf};
+ghost use Rattle.pc_pareto.specs.Arrivals.{variable_at, slots_from};
 ghost use Rattle.pc_pareto.specs.Faults.{IsFaultAt, IsLimitOf};
 ghost use Rattle.pc_pareto.specs.Fronts.{items_at, item_at, limit_at, word_at};
 ghost use Rattle.pc_pareto.specs.FrontsView.{side_of, stages_of, distance_of, IsFrontsOf};
@@ -13,7 +14,8 @@ ghost use Rattle.pc_pareto.specs.Items.{pair_of};
 use crate::front::Front;
 use crate::front_fault::FrontFault;
 use crate::front_item::FrontItem;
-use crate::pass::{finish, first_stages};
+use crate::kept::kept_stages;
+use crate::pass::{finish, first_stages, variable_at};
 use crate::path::path_of;
 use pc_base::{NoMemory, Sequence};
 use pc_diagram::{Choices, Costs, Diagram, Side, Steps, Word};
@@ -101,6 +103,90 @@ impl Fronts {
         ensures { result ≡ (item_at (stages_of self.now) (distance_of self.now layer) node place).back.rank }
     {
         self.items(layer, node)[place as usize].back.rank
+    }
+
+    /// The fronts of the words that lead to each node from the root and agree with the choices, where these fronts were made
+    /// for choices that agree with them at every variable other than one. The layers up to this variable stay.
+    ///
+    /// # Errors
+    ///
+    /// As `front_heads`.
+    pub fn heads_again<L: Ledger>(
+        &self,
+        alloc: Global,
+        diagram: &Diagram,
+        choices: &Choices,
+        costs: &Costs,
+        variable: u32,
+        steps: &mut Steps<L>,
+    ) -> Result<Fronts, FrontFault>
+        requires costs { AreCostsOf diagram.now.domains costs.now }
+        requires choices { AreChoicesOf diagram.now.domains choices.now }
+        requires variable { variable < length diagram.now.domains }
+        requires made { WereFrontsOf Heads diagram.now costs.now choices.now variable self.now }
+        ensures fronts { IfOk result (IsFrontsOf Heads diagram.now costs.now choices.now) }
+        ensures within { OnOk result (limit_at MOST_LABELS Heads diagram.now costs.now choices.now ≡ None) }
+        ensures fault { IfErr result (IsFaultAt (IsLimitOf Heads diagram.now costs.now choices.now)) }
+        ensures steps { steps.new ≤ steps.old + slots_from Heads diagram.now variable }
+    {
+        self.again(alloc, Side::Heads, diagram, choices, costs, variable, steps)
+    }
+
+    /// The fronts of the words that lead from each node to the end and agree with the choices, where these fronts were made
+    /// for choices that agree with them at every variable other than one. The layers after this variable stay.
+    ///
+    /// # Errors
+    ///
+    /// As `front_tails`.
+    pub fn tails_again<L: Ledger>(
+        &self,
+        alloc: Global,
+        diagram: &Diagram,
+        choices: &Choices,
+        costs: &Costs,
+        variable: u32,
+        steps: &mut Steps<L>,
+    ) -> Result<Fronts, FrontFault>
+        requires costs { AreCostsOf diagram.now.domains costs.now }
+        requires choices { AreChoicesOf diagram.now.domains choices.now }
+        requires variable { variable < length diagram.now.domains }
+        requires made { WereFrontsOf Tails diagram.now costs.now choices.now variable self.now }
+        ensures fronts { IfOk result (IsFrontsOf Tails diagram.now costs.now choices.now) }
+        ensures within { OnOk result (limit_at MOST_LABELS Tails diagram.now costs.now choices.now ≡ None) }
+        ensures fault { IfErr result (IsFaultAt (IsLimitOf Tails diagram.now costs.now choices.now)) }
+        ensures steps { steps.new ≤ steps.old + slots_from Tails diagram.now (length diagram.now.domains - (variable + 1)) }
+    {
+        self.again(alloc, Side::Tails, diagram, choices, costs, variable, steps)
+    }
+
+    fn again<L: Ledger>(
+        &self,
+        alloc: Global,
+        side: Side,
+        diagram: &Diagram,
+        choices: &Choices,
+        costs: &Costs,
+        variable: u32,
+        steps: &mut Steps<L>,
+    ) -> Result<Fronts, FrontFault>
+        requires costs { AreCostsOf diagram.now.domains costs.now }
+        requires choices { AreChoicesOf diagram.now.domains choices.now }
+        requires variable { variable < length diagram.now.domains }
+        requires made { WereFrontsOf side diagram.now costs.now choices.now variable self.now }
+        ensures fronts { IfOk result (IsFrontsOf side diagram.now costs.now choices.now) }
+        ensures within { OnOk result (limit_at MOST_LABELS side diagram.now costs.now choices.now ≡ None) }
+        ensures fault { IfErr result (IsFaultAt (IsLimitOf side diagram.now costs.now choices.now)) }
+        ensures steps { steps.new ≤ steps.old + slots_from side diagram.now (variable_at side (length diagram.now.domains) variable) }
+    {
+        let variables = diagram.domains().len() as u32;
+        let from = variable_at(side, diagram, variable);
+        let (stages, limit, total) = kept_stages(alloc, self.stages.as_slice(), from)?;
+        match finish(
+            alloc, side, diagram, choices, costs, variables, from, stages, limit, total, steps,
+        ) {
+            Ok(stages) => Ok(Fronts { side, stages }),
+            Err(fault) => Err(fault),
+        }
     }
 }
 

@@ -10,6 +10,7 @@ mod front;
 mod front_fault;
 mod front_item;
 mod fronts;
+mod kept;
 pub mod laws;
 mod limits;
 mod number;

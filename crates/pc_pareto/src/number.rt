@@ -26,9 +26,20 @@ pub(crate) fn numbered(
     if bound <= MOST_RANKS {
         return Ok((stage, bound));
     }
-    let ranks = sorted_ranks(alloc, stage.as_slice())?;
+    numbered_anew(alloc, stage.as_slice())
+}
+
+/// The fronts of a layer with the ranks numbered anew, and a bound on these.
+pub(crate) fn numbered_anew(
+    alloc: Global,
+    stage: &[Front],
+) -> Result<(Sequence<Front>, u64), NoMemory>
+    requires { sum_by length stage.now ≤ MOST_LABELS }
+    ensures { IfOk result (λ r. IsNumbered stage.now r.0 r.1) }
+{
+    let ranks = sorted_ranks(alloc, stage)?;
     let ranks = ranks.as_slice();
-    let new = renumbered(alloc, stage.as_slice(), ranks)?;
+    let new = renumbered(alloc, stage, ranks)?;
     Ok((new, ranks.len() as u64 + 1))
 }
 

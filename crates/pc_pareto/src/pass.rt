@@ -24,7 +24,7 @@ use std::alloc::Global;
 use std::sync::ledger::Ledger;
 
 /// The variable between the layers at a distance from the end of a side and at the next one.
-fn variable_at(side: Side, diagram: &Diagram, distance: u32) -> u32
+pub(crate) fn variable_at(side: Side, diagram: &Diagram, distance: u32) -> u32
     requires { distance < length diagram.now.domains }
     ensures is { result ≡ variable_at side (length diagram.now.domains) distance }
     ensures within { result < length diagram.now.domains }
