@@ -7,6 +7,7 @@ pub mod FrontWayLemmas
 pub mod ItemLemmas
 pub mod JoinLemmas
 pub mod JoinableLemmas
+pub mod LabelPathLemmas
 pub mod ListedLemmas
 pub mod OrderLemmas
 pub mod PartLemmas

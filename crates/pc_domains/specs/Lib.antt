@@ -1,6 +1,7 @@
 pub mod FrontPaths
 pub mod FrontWays
 pub mod Joins
+pub mod LabelPaths
 pub mod Orders
 pub mod Sides
 pub mod Ways

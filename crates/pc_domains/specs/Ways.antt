@@ -7,12 +7,7 @@ use Rattle.pc_diagram.specs.Levels.{edge, level}
 use Rattle.pc_diagram.specs.NodePaths.{comes_before}
 use Rattle.pc_diagram.specs.Weight.{plus_pair}
 use Rattle.pc_diagram.specs.Words.{is_word}
-
--- a path that is kept: what it costs, and its rank among those that are kept in its layer
-pub record Kept : Type 0 where
-  pub pair : CostPair
-  pub rank : ℕ
-  pub path : List ℕ
+pub use Rattle.pc_labels.specs.Kept.{Kept}
 
 -- some kept path of a node costs no more than another path, and comes no later where it costs as much
 pub record IsCovered (no_more : CostPair → CostPair → Type 0) (costs : List (List CostPair)) (kept : ℕ → Option Kept) (word : List ℕ) : Type 0 where

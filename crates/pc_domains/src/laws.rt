@@ -13,9 +13,12 @@ ghost use Rattle.pc_diagram.specs.Fitting.{fitting};
 ghost use Rattle.pc_diagram.specs.Listing.{listed};
 ghost use Rattle.pc_diagram.specs.NodePaths.{is_allowed, is_tail};
 ghost use Rattle.pc_diagram.specs.Paths.{words};
+ghost use Rattle.pc_labels.specs.Kept.{KeptPaths, kept_at};
+ghost use Rattle.pc_labels.specs.Labels.{AreHeads, AreTails};
 ghost use Rattle.pc_pareto.specs.declared.front_item.FrontItem.{FrontItem};
 ghost use Rattle.pc_pareto.specs.Fronts.{AreFronts};
 ghost use Rattle.pc_domains.specs.FrontPaths.{kept_by_fronts};
+ghost use Rattle.pc_domains.specs.LabelPaths.{kept_by_labels};
 ghost use Rattle.pc_domains.specs.Orders.{IsAtMost, IsNoDearer};
 ghost use Rattle.pc_domains.specs.Sides.{AreDistinctOf, AreSides, IsAllowedWay, IsAsked, IsLeastWay, listed_of};
 ghost use Rattle.pc_domains.specs.Ways.{Keeps, Kept, Way, joined_word};
@@ -111,5 +114,34 @@ pub fn front_of_the_root_tells_whether_a_word_fits()
     ensures none { (raw : RawDiagram) (costs : List (List CostPair)) (choices : List Choice) (bounds : Bounds) (tails : List (List (List FrontItem)))
         → IsCanonical raw → AreDistinctOf raw.domains choices → AreFronts Tails raw costs choices tails
         → ((place : ℕ) (path : Kept) → kept_by_fronts Tails tails (length raw.domains) 0 place ≡ Some path → allows_pair bounds path.pair ≡ false)
+        → fitting costs (words raw) choices bounds ≡ [] }
+{}
+
+/// The labels that both ends of a diagram have with the choices tell what is listed of a value, where the second cost has no
+/// bound: the word of the least way through an edge of it that the bounds allow, or nothing where they allow none.
+pub fn labels_of_both_ends_tell_what_is_listed()
+    ensures listed { (raw : RawDiagram) (costs : List (List CostPair)) (choices : List Choice) (bounds : Bounds) (variable value : ℕ)
+        (heads tails : KeptPaths) (way : Way raw variable value (kept_by_labels heads variable) (kept_by_labels tails (variable + 1)))
+        → IsAsked raw costs choices variable value → bounds.second ≡ None → AreHeads raw choices costs heads → AreTails raw choices costs tails
+        → is_allowed (value_of choices variable) value ≡ true
+        → IsLeastWay raw costs bounds variable value (kept_by_labels heads variable) (kept_by_labels tails (variable + 1)) way
+        → listed_of raw costs choices bounds variable value ≡ Some (listed costs value (joined_word value way.head way.tail)) }
+    ensures unlisted { (raw : RawDiagram) (costs : List (List CostPair)) (choices : List Choice) (bounds : Bounds) (variable value : ℕ)
+        (heads tails : KeptPaths)
+        → IsAsked raw costs choices variable value → bounds.second ≡ None → AreHeads raw choices costs heads → AreTails raw choices costs tails
+        → is_allowed (value_of choices variable) value ≡ true
+        → ((way : Way raw variable value (kept_by_labels heads variable) (kept_by_labels tails (variable + 1))) → IsAllowedWay costs bounds way → ⊥)
+        → listed_of raw costs choices bounds variable value ≡ None }
+{}
+
+/// The label of the root's paths to the end tells whether some word fits, where the second cost has no bound.
+pub fn label_of_the_root_tells_whether_a_word_fits()
+    ensures fits { (raw : RawDiagram) (costs : List (List CostPair)) (choices : List Choice) (bounds : Bounds) (tails : KeptPaths) (path : Kept)
+        → IsCanonical raw → AreDistinctOf raw.domains choices → bounds.second ≡ None → AreTails raw choices costs tails
+        → kept_at tails 0 0 ≡ Some path → allows_pair bounds path.pair ≡ true
+        → Contains (fitting costs (words raw) choices bounds) path.path }
+    ensures none { (raw : RawDiagram) (costs : List (List CostPair)) (choices : List Choice) (bounds : Bounds) (tails : KeptPaths)
+        → IsCanonical raw → AreDistinctOf raw.domains choices → bounds.second ≡ None → AreTails raw choices costs tails
+        → ((path : Kept) → kept_at tails 0 0 ≡ Some path → allows_pair bounds path.pair ≡ false)
         → fitting costs (words raw) choices bounds ≡ [] }
 {}
