@@ -20,10 +20,10 @@ use Rattle.pc_pareto.proofs.FrontLemmas.{front_is}
 use Rattle.pc_domains.specs.FrontWays.{AreFallingFronts, AreJoinable}
 use Rattle.pc_domains.specs.Joins.{IsSumPair}
 
-priced_rest : (costs : List (List CostPair)) (layer : ℕ) → IsPriced costs → IsPriced (drop layer costs)
+pub priced_rest : (costs : List (List CostPair)) (layer : ℕ) → IsPriced costs → IsPriced (drop layer costs)
 priced_rest costs layer priced = record { few = omega (arith, length-drop layer costs, priced.few); in_range = All-drop (All IsPricePair) layer costs priced.in_range }
 
-sums_of : (costs : List (List CostPair)) (word : List ℕ) → IsPriced costs → IsSumPair (cost_pair costs word)
+pub sums_of : (costs : List (List CostPair)) (word : List ℕ) → IsPriced costs → IsSumPair (cost_pair costs word)
 sums_of costs word priced = record { first = cost-IsSum costs First word priced; second = cost-IsSum costs Second word priced }
 
 word_sums : (side : Side) (costs : List (List CostPair)) (layer : ℕ) (word : List ℕ) → IsPriced costs → IsSumPair (pair_of_word side costs layer word)

@@ -7,7 +7,9 @@ pub mod FrontWayLemmas
 pub mod ItemLemmas
 pub mod JoinLemmas
 pub mod JoinableLemmas
+pub mod LabelListedLemmas
 pub mod LabelPathLemmas
+pub mod LabelWayLemmas
 pub mod ListedLemmas
 pub mod OrderLemmas
 pub mod PartLemmas

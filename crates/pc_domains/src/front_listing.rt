@@ -3,16 +3,15 @@
 ghost use Rattle.std.specs.Prelude.{◌≡◌, ◌<◌, ◌≤◌, ◌+◌, [], length, slice_index, slice_index_or, IfOk};
 ghost use Rattle.pc_diagram.specs.declared.limits.TheConstants.{MOST_VARIABLES};
 ghost use Rattle.pc_diagram.specs.declared.side.Side.TheVariants.{Heads, Tails};
-ghost use Rattle.pc_diagram.specs.Choices.{value_of};
-ghost use Rattle.pc_diagram.specs.Costs.{IsPriced, IsPricePair};
-ghost use Rattle.pc_diagram.specs.NodePaths.{AreCostsOf, is_allowed};
+ghost use Rattle.pc_diagram.specs.NodePaths.{AreCostsOf};
 ghost use Rattle.pc_domains.specs.FrontWays.{front_of, word_of_way};
-ghost use Rattle.pc_domains.specs.Sides.{IsAsked, listed_of, price_of};
+ghost use Rattle.pc_domains.specs.Sides.{IsAsked, listed_of};
 ghost use Rattle.pc_pareto.specs.FrontsView.{IsFrontsOf, distance_of, stages_of};
 
+use crate::asked::{allows_value, price_of};
 use crate::front_way::{FrontWay, least_front_way};
 use pc_base::NoMemory;
-use pc_diagram::{Bounds, Choices, CostPair, Costs, Diagram, Listed, Steps, Word};
+use pc_diagram::{Bounds, Choices, Costs, Diagram, Listed, Steps, Word};
 use pc_pareto::Fronts;
 use std::alloc::Global;
 use std::sync::ledger::Ledger;
@@ -44,7 +43,7 @@ pub fn listed_by_fronts<L: Ledger>(
     ensures listed { IfOk result (λ item. item ≡ listed_of diagram.now costs.now choices.now bounds.now variable value) }
     ensures steps { steps.new ≤ steps.old + slice_index diagram.now.sizes variable }
 {
-    if !allows(choices, variable, value) {
+    if !allows_value(choices, variable, value) {
         return Ok(None);
     }
     let price = price_of(costs, variable, value);
@@ -60,27 +59,6 @@ pub fn listed_by_fronts<L: Ledger>(
             }))
         }
         None => Ok(None),
-    }
-}
-
-/// The costs of a value.
-fn price_of(costs: &Costs, variable: u32, value: u32) -> CostPair
-    requires variable { variable < length costs.now }
-    requires value { value < length (slice_index_or costs.now variable []) }
-    requires priced { IsPriced costs.now }
-    ensures is { result ≡ price_of costs.now variable value }
-    ensures in_range { IsPricePair result }
-{
-    costs.as_slice()[variable as usize].as_slice()[value as usize]
-}
-
-/// Whether choices allow a value: it is the chosen one, or none is chosen.
-fn allows(choices: &Choices, variable: u32, value: u32) -> bool
-    ensures { result ≡ is_allowed (value_of choices.now variable) value }
-{
-    match choices.value_of(variable) {
-        Some(chosen) => chosen == value,
-        None => true,
     }
 }
 

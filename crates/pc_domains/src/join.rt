@@ -70,7 +70,7 @@ fn first_within(tails: &[FrontItem], from: usize, head: i64, price: i64, most: O
 }
 
 /// Whether a bound, if it is set, is at least a cost.
-fn allows(most: Option<i64>, cost: i64) -> bool
+pub(crate) fn allows(most: Option<i64>, cost: i64) -> bool
     ensures { result ≡ allows most cost }
 {
     match most {
@@ -100,7 +100,7 @@ fn join_of(head: usize, item: &FrontItem, tail: usize, other: &FrontItem, price:
 }
 
 /// What a head, a value and a tail cost by one cost.
-fn sum(head: i64, price: i64, tail: i64) -> i64
+pub(crate) fn sum(head: i64, price: i64, tail: i64) -> i64
     requires head { IsSum head }
     requires price { IsPrice price }
     requires tail { IsSum tail }

@@ -1,12 +1,17 @@
 //! Boards: what a shopper's choices and bounds leave of each variable's values. So far what is listed of one value by the
-//! fronts of both ends, and the laws that listings stand on.
+//! labels or the fronts of both ends, and the laws that listings stand on.
 #![tactic(auto)]
 
+mod asked;
 mod front_listing;
 mod front_way;
 mod join;
+mod label_listing;
+mod label_way;
 pub mod laws;
 
 pub use front_listing::listed_by_fronts;
 pub use front_way::{FrontWay, least_front_way};
 pub use join::{Join, least_join};
+pub use label_listing::listed_by_labels;
+pub use label_way::{LabelWay, least_label_way};
