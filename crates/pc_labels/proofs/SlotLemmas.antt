@@ -43,17 +43,17 @@ same_some : {X : Type 0} (x y : X) → Some x ≡ Some y → x ≡ y
 same_some x y e = ap (λ o. unwrap_or o x) e
 
 -- each path has room to go on
-pub may_go_on : (domain : ℕ) (chosen : Option ℕ) (row : List CostPair) (slots : Slots) (before : Marks) → HasRoom before.weights row → All (IsBelow before.limit) before.weights → before.limit * domain ≤ rank_count → AreSlots domain chosen row 1 slots →
+pub may_go_on : (domain : ℕ) (chosen : Option ℕ) (prices : List CostPair) (slots : Slots) (before : Marks) → HasRoom before.weights prices → All (IsBelow before.limit) before.weights → before.limit * domain ≤ rank_count → AreSlots domain chosen prices 1 slots →
     MayGoOn domain slots before
-may_go_on domain chosen row slots before room below few h step of x y e f = by (weight_at before step.node) refl e
+may_go_on domain chosen prices slots before room below few h step of x y e f = by (weight_at before step.node) refl e
   where
     by : (w : Option Ranked) → weight_at before step.node ≡ w → option_map (λ r. with_rank (r.rank * domain) r) w ≡ Some x → IsRanked (plus_ranked x y) × ((x.rank + y.rank) < before.limit * domain)
     by None d g = absurd cc
     by (Some r) d g =
         let inside : step.value < domain = omega (arith, of.1, h.values.within) in
         let x_is : with_rank (r.rank * domain) r ≡ x = same_some (with_rank (r.rank * domain) r) x g in
-        let own : Ranked = record { pair = pair_at row step.value; rank = step.value * 1 } in
-        let y_is : own ≡ y = same_some own y (sym (slot_is domain 1 chosen row slots step h inside) ∙ f) in
+        let own : Ranked = record { pair = pair_at prices step.value; rank = step.value * 1 } in
+        let y_is : own ≡ y = same_some own y (sym (slot_is domain 1 chosen prices slots step h inside) ∙ f) in
         let sums = room step.node step.value r d in
         let less : (r.rank * domain + step.value * 1) < before.limit * domain = let one : step.value * 1 ≡ step.value = omega arith in let t = times_more r.rank before.limit domain step.value (below-at before.limit before.weights step.node r below d) inside in omega (arith, t, one) in
         subst (λ v. IsRanked (plus_ranked v y) × ((v.rank + y.rank) < before.limit * domain)) x_is
@@ -61,11 +61,11 @@ may_go_on domain chosen row slots before room below few h step of x y e f = by (
         (record { first = sums.0; second = sums.1; rank = omega (arith, less, few) }, less))
 
 -- what was looked at slot by slot is the least of what leads to each node
-pub heads-made : (l : Level) (chosen : Option ℕ) (row : List CostPair) (slots : Slots) (before marks : Marks) (node : ℕ) → l.size ≤ node → All (IsBelow before.limit) before.weights → AreSlots l.domain chosen row 1 slots → AreHeadsSoFar l slots before node 0 marks → AreNextHeads l chosen row before marks
-heads-made l chosen row slots before marks node all ranks are h = record {
+pub heads-made : (l : Level) (chosen : Option ℕ) (prices : List CostPair) (slots : Slots) (before marks : Marks) (node : ℕ) → l.size ≤ node → All (IsBelow before.limit) before.weights → AreSlots l.domain chosen prices 1 slots → AreHeadsSoFar l slots before node 0 marks → AreNextHeads l chosen prices before marks
+heads-made l chosen prices slots before marks node all ranks are h = record {
   nodes = h.nodes;
   ranks = ranks;
-  least = λ target lt. least-same (HasLed l slots node 0 target) (LeadsTo l chosen target) (onward_by l.domain slots before) (onward l.domain row before) (weight_at marks target) (step_at marks target)
+  least = λ target lt. least-same (HasLed l slots node 0 target) (LeadsTo l chosen target) (onward_by l.domain slots before) (onward l.domain prices before) (weight_at marks target) (step_at marks target)
       (up target) (down target) (λ o k. same o (omega (arith, k.of_slots.1, are.values.within))) (h.least target lt);
 }
   where
@@ -77,12 +77,12 @@ heads-made l chosen row slots before marks node all ranks are h = record {
     down : (target : ℕ) (o : Step) → LeadsTo l chosen target o → HasLed l slots node 0 target o
     down target o k = record { before = k.before; of_slots = (are.values.allowed o.value k.value).1 k.allowed; leads = k.leads; past = inl (omega (arith, k.before, all)) }
 
-    same : (o : Step) → o.value < l.domain → onward_by l.domain slots before o ≡ onward l.domain row before o
-    same o inside = ap (plus (widened l.domain before o.node)) (slot_is l.domain 1 chosen row slots o are inside) ∙ by (weight_at before o.node)
+    same : (o : Step) → o.value < l.domain → onward_by l.domain slots before o ≡ onward l.domain prices before o
+    same o inside = ap (plus (widened l.domain before o.node)) (slot_is l.domain 1 chosen prices slots o are inside) ∙ by (weight_at before o.node)
       where
-        by : (w : Option Ranked) → plus (option_map (λ r. with_rank (r.rank * l.domain) r) w) (Some (record { pair = pair_at row o.value; rank = o.value * 1 })) ≡ option_map (λ r. record { pair = plus_pair r.pair (pair_at row o.value); rank = r.rank * l.domain + o.value }) w
+        by : (w : Option Ranked) → plus (option_map (λ r. with_rank (r.rank * l.domain) r) w) (Some (record { pair = pair_at prices o.value; rank = o.value * 1 })) ≡ option_map (λ r. record { pair = plus_pair r.pair (pair_at prices o.value); rank = r.rank * l.domain + o.value }) w
         by None = refl
-        by (Some r) = let one : r.rank * l.domain + o.value * 1 ≡ r.rank * l.domain + o.value = omega arith in ap (λ n. Some (record { pair = plus_pair r.pair (pair_at row o.value); rank = n })) one
+        by (Some r) = let one : r.rank * l.domain + o.value * 1 ≡ r.rank * l.domain + o.value = omega arith in ap (λ n. Some (record { pair = plus_pair r.pair (pair_at prices o.value); rank = n })) one
 
 -- a value that is chosen is one of the variable's
 pub chosen_inside : (domains : List ℕ) (choices : List Choice) (variable : ℕ) → All (IsChoiceOf domains) choices → IfSome (value_of choices variable) (λ value. value < slice_index domains variable)
