@@ -1,3 +1,4 @@
+pub mod Boards
 pub mod FrontPaths
 pub mod FrontWays
 pub mod Joins

@@ -3,6 +3,7 @@
 #![tactic(auto)]
 
 mod asked;
+mod board;
 mod front_listing;
 mod front_way;
 mod join;
@@ -10,6 +11,7 @@ mod label_listing;
 mod label_way;
 pub mod laws;
 
+pub use board::{Board, Ends};
 pub use front_listing::listed_by_fronts;
 pub use front_way::{FrontWay, least_front_way};
 pub use join::{Join, least_join};

@@ -1,0 +1,26 @@
+-- Boards of a diagram.
+use Rattle.std.specs.Prelude.{ℤ, List, Option, None, Some}
+use Rattle.pc_diagram.specs.declared.choice.Choice.{Choice}
+use Rattle.pc_diagram.specs.declared.costs.CostPair.{CostPair}
+use Rattle.pc_diagram.specs.declared.raw_diagram.RawDiagram.{RawDiagram}
+use Rattle.pc_diagram.specs.declared.side.Side.TheVariants.{Heads, Tails}
+use Rattle.pc_labels.specs.Labels.{AreHeads, AreTails}
+use Rattle.pc_pareto.specs.FrontsView.{IsFrontsOf}
+use Rattle.pc_domains.specs.declared.board.Board.{Board}
+use Rattle.pc_domains.specs.declared.board.Ends.{Ends}
+use Rattle.pc_domains.specs.declared.board.Ends.TheVariants.{Least, Pairs}
+use Rattle.pc_domains.specs.Sides.{AreDistinctOf}
+
+-- both ends are fronts where the second cost has a bound, and else labels, with these choices
+abbrev pub AreEnds : RawDiagram → List (List CostPair) → List Choice → Option ℤ → Ends → Ends → Type 0
+AreEnds raw costs choices None (Least heads) (Least tails) = AreHeads raw choices costs heads × AreTails raw choices costs tails
+AreEnds raw costs choices None (Least heads) (Pairs tails) = ⊥
+AreEnds raw costs choices None (Pairs heads) tails = ⊥
+AreEnds raw costs choices (Some most) (Pairs heads) (Pairs tails) = IsFrontsOf Heads raw costs choices heads × IsFrontsOf Tails raw costs choices tails
+AreEnds raw costs choices (Some most) (Pairs heads) (Least tails) = ⊥
+AreEnds raw costs choices (Some most) (Least heads) tails = ⊥
+
+-- a board with distinct choices of the diagram's values, and ends that are made for them
+pub record IsBoardOf (raw : RawDiagram) (costs : List (List CostPair)) (board : Board) : Type 0 where
+  pub choices_of : AreDistinctOf raw.domains board.choices
+  pub ends : AreEnds raw costs board.choices board.bounds.second board.heads board.tails

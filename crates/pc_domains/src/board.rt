@@ -1,0 +1,70 @@
+//! Boards.
+
+ghost use Rattle.std.specs.Prelude.{◌≡◌, ◌<◌, ◌≤◌, ◌+◌, length, slice_index, IfOk};
+ghost use Rattle.pc_diagram.specs.NodePaths.{AreCostsOf};
+ghost use Rattle.pc_domains.specs.Boards.{IsBoardOf};
+ghost use Rattle.pc_domains.specs.Sides.{IsAsked, listed_of};
+
+use crate::front_listing::listed_by_fronts;
+use crate::label_listing::listed_by_labels;
+use pc_base::NoMemory;
+use pc_diagram::{Bounds, Choices, Costs, Diagram, Listed, Steps};
+use pc_labels::Labels;
+use pc_pareto::Fronts;
+use std::alloc::Global;
+use std::sync::ledger::Ledger;
+
+/// What is kept of the nodes of a diagram from one of its ends.
+#[derive(Debug, Drop)]
+pub enum Ends {
+    /// Of each node its cheapest path.
+    Least(Labels),
+    /// Of each node the front of the costs of its paths.
+    Pairs(Fronts),
+}
+
+/// Choices and bounds over a diagram, and what is kept from both of its ends with the choices: fronts where the second cost
+/// has a bound, and else labels.
+#[derive(Debug, Drop)]
+pub struct Board {
+    pub choices: Choices,
+    pub bounds: Bounds,
+    pub heads: Ends,
+    pub tails: Ends,
+}
+
+impl Board {
+    /// What is listed of a value, if it is listed: the cheapest word of the diagram that takes it, agrees with the choices and
+    /// keeps the bounds, with its costs.
+    ///
+    /// # Errors
+    ///
+    /// Want of memory.
+    pub fn item<L: Ledger>(
+        &self,
+        alloc: Global,
+        diagram: &Diagram,
+        costs: &Costs,
+        variable: u32,
+        value: u32,
+        steps: &mut Steps<L>,
+    ) -> Result<Option<Listed>, NoMemory>
+        requires variable { variable < length diagram.now.domains }
+        requires value { value < slice_index diagram.now.domains variable }
+        requires costs { AreCostsOf diagram.now.domains costs.now }
+        requires asked { IsAsked diagram.now costs.now self.now.choices variable value }
+        requires board { IsBoardOf diagram.now costs.now self.now }
+        ensures listed { IfOk result (λ item. item ≡ listed_of diagram.now costs.now self.now.choices self.now.bounds variable value) }
+        ensures steps { steps.new ≤ steps.old + slice_index diagram.now.sizes variable }
+    {
+        match (&self.heads, &self.tails) {
+            (Ends::Least(heads), Ends::Least(tails)) => {
+                listed_by_labels(alloc, diagram, costs, &self.choices, &self.bounds, heads, tails, variable, value, steps)
+            }
+            (Ends::Pairs(heads), Ends::Pairs(tails)) => {
+                listed_by_fronts(alloc, diagram, costs, &self.choices, &self.bounds, heads, tails, variable, value, steps)
+            }
+            _ => Ok(None),
+        }
+    }
+}
