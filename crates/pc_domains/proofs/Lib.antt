@@ -1,3 +1,4 @@
+pub mod BoardLemmas
 pub mod AgreeLemmas
 pub mod FitLemmas
 pub mod FrontListedLemmas

@@ -1,5 +1,5 @@
 -- Boards of a diagram.
-use Rattle.std.specs.Prelude.{ℤ, List, Option, None, Some}
+use Rattle.std.specs.Prelude.{ℕ, zero, suc, ◌+◌, ◌*◌, slice_index, ℤ, List, Option, None, Some}
 use Rattle.pc_diagram.specs.declared.choice.Choice.{Choice}
 use Rattle.pc_diagram.specs.declared.costs.CostPair.{CostPair}
 use Rattle.pc_diagram.specs.declared.raw_diagram.RawDiagram.{RawDiagram}
@@ -24,3 +24,8 @@ AreEnds raw costs choices (Some most) (Least heads) tails = ⊥
 pub record IsBoardOf (raw : RawDiagram) (costs : List (List CostPair)) (board : Board) : Type 0 where
   pub choices_of : AreDistinctOf raw.domains board.choices
   pub ends : AreEnds raw costs board.choices board.bounds.second board.heads board.tails
+
+-- how many slots so many variables have: one for each node and value
+abbrev pub slots_before : RawDiagram → ℕ → ℕ
+slots_before raw zero = 0
+slots_before raw (suc count) = slots_before raw count + slice_index raw.domains count * slice_index raw.sizes count

@@ -1,14 +1,18 @@
 //! Boards.
 
-ghost use Rattle.std.specs.Prelude.{◌≡◌, ◌<◌, ◌≤◌, ◌+◌, length, slice_index, IfOk};
+ghost use Rattle.std.specs.Prelude.{◌≡◌, ◌<◌, ◌≤◌, ◌+◌, ◌*◌, length, slice_index, IfOk};
+ghost use Rattle.pc_diagram.specs.Diagram.{IsCanonical};
+ghost use Rattle.pc_diagram.specs.Fitting.{fitting};
+ghost use Rattle.pc_diagram.specs.Listing.{items, listing};
 ghost use Rattle.pc_diagram.specs.NodePaths.{AreCostsOf};
-ghost use Rattle.pc_domains.specs.Boards.{IsBoardOf};
+ghost use Rattle.pc_diagram.specs.Paths.{words};
+ghost use Rattle.pc_domains.specs.Boards.{IsBoardOf, slots_before};
 ghost use Rattle.pc_domains.specs.Sides.{IsAsked, listed_of};
 
 use crate::front_listing::listed_by_fronts;
 use crate::label_listing::listed_by_labels;
-use pc_base::NoMemory;
-use pc_diagram::{Bounds, Choices, Costs, Diagram, Listed, Steps};
+use pc_base::{NoMemory, Sequence};
+use pc_diagram::{Bounds, Choices, Costs, Diagram, Listed, Listing, Steps};
 use pc_labels::Labels;
 use pc_pareto::Fronts;
 use std::alloc::Global;
@@ -59,12 +63,85 @@ impl Board {
     {
         match (&self.heads, &self.tails) {
             (Ends::Least(heads), Ends::Least(tails)) => {
-                listed_by_labels(alloc, diagram, costs, &self.choices, &self.bounds, heads, tails, variable, value, steps)
+                listed_by_labels(
+                    alloc,
+                    diagram,
+                    costs,
+                    &self.choices,
+                    &self.bounds,
+                    heads,
+                    tails,
+                    variable,
+                    value,
+                    steps,
+                )
             }
             (Ends::Pairs(heads), Ends::Pairs(tails)) => {
-                listed_by_fronts(alloc, diagram, costs, &self.choices, &self.bounds, heads, tails, variable, value, steps)
+                listed_by_fronts(
+                    alloc,
+                    diagram,
+                    costs,
+                    &self.choices,
+                    &self.bounds,
+                    heads,
+                    tails,
+                    variable,
+                    value,
+                    steps,
+                )
             }
             _ => Ok(None),
         }
+    }
+
+    /// What is listed of each variable, in order.
+    ///
+    /// # Errors
+    ///
+    /// Want of memory.
+    pub fn listing<L: Ledger>(
+        &self,
+        alloc: Global,
+        diagram: &Diagram,
+        costs: &Costs,
+        steps: &mut Steps<L>,
+    ) -> Result<Listing, NoMemory>
+        requires costs { AreCostsOf diagram.now.domains costs.now }
+        requires board { IsBoardOf diagram.now costs.now self.now }
+        ensures listing { IfOk result (λ rows. rows ≡ listing costs.now (words diagram.now) self.now.choices self.now.bounds) }
+        ensures steps { steps.new ≤ steps.old + slots_before diagram.now (length diagram.now.domains) }
+    {
+        let mut rows = Listing::new(alloc);
+        for (variable, domain) in diagram.domains().iter().enumerate() {
+            rows.push(self.row(alloc, diagram, costs, variable as u32, *domain, steps)?)?;
+        }
+        Ok(rows)
+    }
+
+    /// What is listed of a variable of so many values.
+    fn row<L: Ledger>(
+        &self,
+        alloc: Global,
+        diagram: &Diagram,
+        costs: &Costs,
+        variable: u32,
+        domain: u32,
+        steps: &mut Steps<L>,
+    ) -> Result<Sequence<Listed>, NoMemory>
+        requires variable { variable < length diagram.now.domains }
+        requires domain { domain ≡ slice_index diagram.now.domains variable }
+        requires canonical { IsCanonical diagram.now }
+        requires costs { AreCostsOf diagram.now.domains costs.now }
+        requires board { IsBoardOf diagram.now costs.now self.now }
+        ensures row { IfOk result (λ row. row ≡ items costs.now (fitting costs.now (words diagram.now) self.now.choices self.now.bounds) variable) }
+        ensures steps { steps.new ≤ steps.old + domain * slice_index diagram.now.sizes variable }
+    {
+        let mut row = Sequence::new(alloc);
+        for value in 0..domain {
+            if let Some(item) = self.item(alloc, diagram, costs, variable, value, steps)? {
+                row.push(item)?;
+            }
+        }
+        Ok(row)
     }
 }

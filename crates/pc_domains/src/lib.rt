@@ -1,5 +1,5 @@
-//! Boards: what a shopper's choices and bounds leave of each variable's values. So far what is listed of one value by the
-//! labels or the fronts of both ends, and the laws that listings stand on.
+//! Boards: what a shopper's choices and bounds leave of each variable's values. `Board::listing` is exactly the listing over
+//! the diagram's words, joined from what is kept of the paths from both ends.
 #![tactic(auto)]
 
 mod asked;

@@ -1,0 +1,21 @@
+-- One value more: its item, if it is listed.
+use Rattle.std.proofs.Common.{sym, ◌∙◌, arith}
+use Rattle.pc_diagram.specs.Fitting.{fitting}
+use Rattle.pc_diagram.specs.Listing.{item}
+use Rattle.pc_diagram.specs.Paths.{words}
+use Rattle.pc_domains.proofs.BoardLemmas.{row_more, row_same}
+use Rattle.pc_domains.proofs.board.Board.row.Goals as goal
+use Rattle.pc_domains.proofs.board.Board.row.Goals.{in-Some+in_ok-push, in_default}
+
+pub loop-value-preserved : goal.loop-value-preserved
+loop-value-preserved g c =
+    let costs = c.args.costs.now in
+    let f = item costs (fitting costs (words c.args.diagram.now) c.args.self.now.choices c.args.self.now.bounds) c.args.variable in
+    let value = c.loop-value.value in (
+      elim c.match-branch-2.branch [
+        | in-Some+in_ok-push w ↦
+            row_more f value c.loop-value.row c.match-branch-2.row w.in-Some.item c.loop-value.invariant.0 (sym w.in-Some.is ∙ c.in_ok-item.ensures.listed) (w.row-is ∙ w.in_ok-push.ensures.ok)
+        | in_default w ↦ w.row-is ∙ row_same f value c.loop-value.row c.loop-value.invariant.0 (sym w.in_default.is ∙ c.in_ok-item.ensures.listed)
+      ],
+      omega (arith, c.loop-value.invariant.1, c.item.ensures.steps),
+    )
