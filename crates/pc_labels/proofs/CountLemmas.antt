@@ -63,3 +63,34 @@ module _ (raw : RawDiagram) (choices : List Choice) where
       let least : slot_count raw choices (n - (k + 1)) (k + 1) ≤ slot_count raw choices 0 n =
       subst (λ i. slot_count raw choices i (k + 1) ≤ slot_count raw choices 0 n) z (subst (λ i. slot_count raw choices (0 + (n - (k + 1))) (k + 1) ≤ slot_count raw choices 0 i) all most) in
       omega (arith, h, least)
+
+  -- steps over one variable more, from this one on
+  pub steps_onward : (old before after first k n : ℕ) → first ≤ k → k < n → before ≤ old + slot_count raw choices first (k - first) → after ≤ before + slots_of raw choices k →
+      (after ≤ old + slot_count raw choices first (k + 1 - first)) × (after ≤ old + slot_count raw choices first (n - first))
+  steps_onward old before after first k n from lt h j =
+      let last : first + (k - first) ≡ k = omega (arith, from) in
+      let one : suc (k - first) ≡ k + 1 - first = omega (arith, from) in
+      let grown : slot_count raw choices first (suc (k - first)) ≡ slot_count raw choices first (k - first) + slots_of raw choices k = count_last first (k - first) ∙ ap (λ i. slot_count raw choices first (k - first) + slots_of raw choices i) last in
+      let here : after ≤ old + slot_count raw choices first (suc (k - first)) = omega (arith, h, j, grown) in
+      let left : suc (k - first) + (n - suc k) ≡ n - first = omega (arith, from, lt) in
+      let most : slot_count raw choices first (suc (k - first)) ≤ slot_count raw choices first (n - first) = subst (λ i. slot_count raw choices first (suc (k - first)) ≤ slot_count raw choices first i) left (count_more first (suc (k - first)) (n - suc k)) in
+      (subst (λ i. after ≤ old + slot_count raw choices first i) one here, omega (arith, here, most))
+
+  -- steps over one variable more, from this one back to the root
+  pub steps_homeward : (old before after variable made n : ℕ) → variable < n → n - 1 - variable ≤ made → made < n →
+      before ≤ old + slot_count raw choices (n - made) (made - (n - 1 - variable)) → after ≤ before + slots_of raw choices (n - 1 - made) →
+      (after ≤ old + slot_count raw choices (n - (made + 1)) (made + 1 - (n - 1 - variable))) × (after ≤ old + slot_count raw choices 0 (variable + 1))
+  steps_homeward old before after variable made n within from lt h j =
+      let k = made - (n - 1 - variable) in
+      let first = n - (made + 1) in
+      let one : suc (made - (n - 1 - variable)) ≡ made + 1 - (n - 1 - variable) = omega (arith, from) in
+      let here : n - (made + 1) ≡ n - 1 - made = omega (arith, lt) in
+      let next : (n - (made + 1)) + 1 ≡ n - made = omega (arith, lt) in
+      let grown : slot_count raw choices first (suc k) ≡ slots_of raw choices (n - 1 - made) + slot_count raw choices (n - made) k =
+      ap (λ i. slots_of raw choices i + slot_count raw choices (first + 1) k) here ∙ ap (λ i. slots_of raw choices (n - 1 - made) + slot_count raw choices i k) next in
+      let now : after ≤ old + slot_count raw choices first (suc k) = omega (arith, h, j, grown) in
+      let all : (n - (made + 1)) + suc (made - (n - 1 - variable)) ≡ variable + 1 = omega (arith, within, from, lt) in
+      let z : 0 + (n - (made + 1)) ≡ n - (made + 1) = omega arith in
+      let most : slot_count raw choices first (suc k) ≤ slot_count raw choices 0 (variable + 1) =
+      subst (λ i. slot_count raw choices i (suc k) ≤ slot_count raw choices 0 (variable + 1)) z (subst (λ i. slot_count raw choices (0 + first) (suc k) ≤ slot_count raw choices 0 i) all (count_tail first 0 (suc k))) in
+      (subst (λ i. after ≤ old + slot_count raw choices first i) one now, omega (arith, now, most))

@@ -1,3 +1,4 @@
+pub mod AgainLemmas
 pub mod CountLemmas
 pub mod Extending
 pub mod GrowLemmas

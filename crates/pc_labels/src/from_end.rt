@@ -15,6 +15,7 @@ ghost use Rattle.pc_labels.specs.SoFar.{AreNextTailsOf, HasLedOn, MayComeFrom, b
 
 use crate::layer::{Layer, NO_STEP};
 use crate::ranks::needs_ranks_anew;
+use crate::shared_layer::SharedLayer;
 use crate::slots::Slots;
 use crate::step::Step;
 use pc_base::NoMemory;
@@ -36,7 +37,7 @@ pub(crate) fn push_tails<L: Ledger>(
     choices: &Choices,
     costs: &Costs,
     variable: u32,
-    layers: &mut Vec<Layer>,
+    layers: &mut Vec<SharedLayer>,
     steps: &mut Steps<L>,
 ) -> Result<(), NoMemory>
     requires variable { variable < length diagram.now.domains }
@@ -47,8 +48,16 @@ pub(crate) fn push_tails<L: Ledger>(
     ensures made { OnOk result (AreTailsFrom diagram.now choices.now costs.now variable layers.new.items) }
     ensures steps { steps.new ≤ steps.old + slots_of diagram.now choices.now variable }
 {
-    let next = next_tails(alloc, diagram, choices, costs, variable, &layers[0], steps)?;
-    layers.insert(0, next)?;
+    let next = next_tails(
+        alloc,
+        diagram,
+        choices,
+        costs,
+        variable,
+        layers[0].layer(),
+        steps,
+    )?;
+    layers.insert(0, SharedLayer::new(alloc, next)?)?;
     Ok(())
 }
 

@@ -14,6 +14,7 @@ ghost use Rattle.pc_labels.specs.SoFar.{AreHeadsSoFar, AreNextHeadsOf, MayGoOn};
 
 use crate::layer::Layer;
 use crate::ranks::needs_ranks_anew;
+use crate::shared_layer::SharedLayer;
 use crate::slots::Slots;
 use crate::step::Step;
 use pc_base::NoMemory;
@@ -28,7 +29,7 @@ pub(crate) fn push_heads<L: Ledger>(
     choices: &Choices,
     costs: &Costs,
     variable: u32,
-    layers: &mut Vec<Layer>,
+    layers: &mut Vec<SharedLayer>,
     steps: &mut Steps<L>,
 ) -> Result<(), NoMemory>
     requires variable { variable < length diagram.now.domains }
@@ -45,10 +46,10 @@ pub(crate) fn push_heads<L: Ledger>(
         choices,
         costs,
         variable,
-        &layers[variable as usize],
+        layers[variable as usize].layer(),
         steps,
     )?;
-    layers.push(next)?;
+    layers.push(SharedLayer::new(alloc, next)?)?;
     Ok(())
 }
 

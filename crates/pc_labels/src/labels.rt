@@ -1,17 +1,17 @@
 //! Labels of a diagram's nodes.
 
-ghost use Rattle.std.specs.Prelude.{◌≡◌, ◌+◌, ◌<◌, ◌≤◌, ◌^◌, [], ◌++◌, length, slice_index_or, Some, None, IsSome, IfOk, OnOk, IfSome, option_map};
+ghost use Rattle.std.specs.Prelude.{◌≡◌, ◌+◌, ◌-◌, ◌<◌, ◌≤◌, ◌^◌, [], ◌++◌, length, slice_index_or, Some, None, IsSome, IfOk, OnOk, IfSome, option_map};
 ghost use Rattle.pc_diagram.specs.declared.side.Side.TheVariants.{Heads, Tails};
 ghost use Rattle.pc_diagram.specs.NodePaths.{AreCostsOf, AreChoicesOf};
 ghost use Rattle.pc_labels.specs.Growing.{marks_at, AreLayers};
 ghost use Rattle.pc_labels.specs.Kept.{kept_heads, kept_tails, path_at};
-ghost use Rattle.pc_labels.specs.Labels.{slot_count, AreHeads, AreTails};
+ghost use Rattle.pc_labels.specs.Labels.{slot_count, AreHeads, AreTails, WereHeads, WereTails};
 ghost use Rattle.pc_labels.specs.Marks.{weight_at};
 
 use crate::from_end::push_tails;
 use crate::from_root::push_heads;
 use crate::label::Label;
-use crate::layer::Layer;
+use crate::shared_layer::{SharedLayer, all_shared};
 use pc_base::NoMemory;
 use pc_diagram::{Choices, Costs, Diagram, Side, Steps, Weight, Word};
 use std::alloc::Global;
@@ -23,7 +23,7 @@ use std::sync::ledger::Ledger;
 #[derive(Debug, Drop)]
 pub struct Labels {
     side: Side,
-    layers: Vec<Layer>,
+    layers: Vec<SharedLayer>,
 }
 
 impl Model for Labels {
@@ -52,7 +52,7 @@ pub fn heads<L: Ledger>(
 {
     let domains = diagram.domains();
     let mut layers = Vec::with_capacity(alloc, domains.len() + 1)?;
-    layers.push(Layer::start(alloc)?)?;
+    layers.push(SharedLayer::start(alloc)?)?;
     for variable in 0..domains.len() {
         push_heads(
             alloc,
@@ -85,7 +85,7 @@ pub fn tails<L: Ledger>(
 {
     let domains = diagram.domains();
     let mut layers = Vec::with_capacity(alloc, domains.len() + 1)?;
-    layers.push(Layer::start(alloc)?)?;
+    layers.push(SharedLayer::start(alloc)?)?;
     for made in 0..domains.len() {
         let variable = domains.len() - 1 - made;
         push_tails(
@@ -158,10 +158,92 @@ impl Labels {
         }
         Ok(word)
     }
+
+    /// The labels of the paths from the root that agree with choices, brought forward from labels made for choices that agree
+    /// with these at every variable other than `variable`: the layers up to it are shared, the others made anew.
+    pub fn heads_again<L: Ledger>(
+        &self,
+        alloc: Global,
+        diagram: &Diagram,
+        choices: &Choices,
+        costs: &Costs,
+        variable: u32,
+        steps: &mut Steps<L>,
+    ) -> Result<Labels, NoMemory>
+        requires variable { variable < length diagram.now.domains }
+        requires costs { AreCostsOf diagram.now.domains costs.now }
+        requires choices { AreChoicesOf diagram.now.domains choices.now }
+        requires before { WereHeads diagram.now choices.now costs.now variable self.now }
+        ensures heads { IfOk result (λ labels. AreHeads diagram.now choices.now costs.now labels) }
+        ensures steps { steps.new ≤ steps.old + slot_count diagram.now choices.now variable (length diagram.now.domains - variable) }
+    {
+        let first = variable as usize;
+        let domains = diagram.domains();
+        let mut layers = all_shared(alloc, &self.layers.as_slice()[..first + 1])?;
+        for next in first..domains.len() {
+            push_heads(
+                alloc,
+                diagram,
+                choices,
+                costs,
+                next as u32,
+                &mut layers,
+                steps,
+            )?;
+        }
+        Ok(Labels {
+            side: Side::Heads,
+            layers,
+        })
+    }
+
+    /// The labels of the paths to the end that agree with choices, brought forward from labels made for choices that agree with
+    /// these at every variable other than `variable`: the layers after it are shared, the others made anew.
+    pub fn tails_again<L: Ledger>(
+        &self,
+        alloc: Global,
+        diagram: &Diagram,
+        choices: &Choices,
+        costs: &Costs,
+        variable: u32,
+        steps: &mut Steps<L>,
+    ) -> Result<Labels, NoMemory>
+        requires variable { variable < length diagram.now.domains }
+        requires costs { AreCostsOf diagram.now.domains costs.now }
+        requires choices { AreChoicesOf diagram.now.domains choices.now }
+        requires before { WereTails diagram.now choices.now costs.now variable self.now }
+        ensures tails { IfOk result (λ labels. AreTails diagram.now choices.now costs.now labels) }
+        ensures steps { steps.new ≤ steps.old + slot_count diagram.now choices.now 0 (variable + 1) }
+    {
+        let last = variable as usize;
+        let domains = diagram.domains();
+        let mut layers = all_shared(alloc, &self.layers.as_slice()[last + 1..])?;
+        for made in domains.len() - 1 - last..domains.len() {
+            let next = domains.len() - 1 - made;
+            push_tails(
+                alloc,
+                diagram,
+                choices,
+                costs,
+                next as u32,
+                &mut layers,
+                steps,
+            )?;
+        }
+        Ok(Labels {
+            side: Side::Tails,
+            layers,
+        })
+    }
 }
 
 /// Puts the values of the path from the root to a node at the end of a word.
-fn push_head(layers: &[Layer], layer: usize, node: u32, word: &mut Word) -> Result<(), NoMemory>
+fn push_head(
+    layers: &[SharedLayer],
+    layer: usize,
+    node: u32,
+    word: &mut Word,
+) -> Result<(), NoMemory>
     requires layers { AreLayers Heads layers.now }
     requires layer { layer < length layers.now }
     requires node { IsSome (weight_at (marks_at layers.now layer) node) }
@@ -177,7 +259,12 @@ fn push_head(layers: &[Layer], layer: usize, node: u32, word: &mut Word) -> Resu
 }
 
 /// Puts the values of the path from a node to the end at the end of a word.
-fn push_tail(layers: &[Layer], layer: usize, node: u32, word: &mut Word) -> Result<(), NoMemory>
+fn push_tail(
+    layers: &[SharedLayer],
+    layer: usize,
+    node: u32,
+    word: &mut Word,
+) -> Result<(), NoMemory>
     requires layers { AreLayers Tails layers.now }
     requires layer { layer < length layers.now }
     requires node { IsSome (weight_at (marks_at layers.now layer) node) }

@@ -1,5 +1,6 @@
 //! Labels of the nodes of a decision diagram, from either end: of each node the cheapest path that agrees with choices, and of
-//! several such paths the one that comes first. `heads` and `tails` make them in one pass over the slots.
+//! several such paths the one that comes first. `heads` and `tails` make them in one pass over the slots;
+//! `Labels::heads_again` and `Labels::tails_again` bring them forward when a choice changes.
 #![tactic(auto)]
 
 mod from_end;
@@ -8,6 +9,7 @@ mod label;
 mod labels;
 mod layer;
 mod ranks;
+mod shared_layer;
 mod slots;
 mod step;
 
