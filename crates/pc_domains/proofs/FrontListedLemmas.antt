@@ -1,5 +1,5 @@
 -- What is listed of a value is the word of the least way by the fronts of both ends.
-use Rattle.std.proofs.Common.{◌≡◌, ℕ, zero, suc, ◌+◌, ◌<◌, true, List, [], ◌∷◌, ◌++◌, length, get_or, slice_index_or, slice_get, Option, Some, None, option_map, ℤ, refl, sym, ap, subst, ◌∙◌, arith}
+use Rattle.std.proofs.Common.{◌≡◌, ℕ, zero, suc, ◌+◌, ◌<◌, true, List, [], ◌∷◌, ◌++◌, length, get_or, slice_index_or, slice_get, Option, Some, None, is_some, option_map, ℤ, refl, sym, ap, subst, ◌∙◌, arith}
 use Rattle.pc_diagram.specs.declared.bounds.Bounds.{Bounds}
 use Rattle.pc_diagram.specs.declared.choice.Choice.{Choice}
 use Rattle.pc_diagram.specs.declared.costs.CostPair.{CostPair}
@@ -160,3 +160,8 @@ module _ (raw : RawDiagram) (costs : List (List CostPair)) (choices : List Choic
   front_unlisted none = none_allowed raw costs choices bounds variable value asked IsAtMost at_most_adds_up (at_most_downward bounds)
       (kept_by_fronts Heads (stages_of heads) (distance_of heads variable)) (kept_by_fronts Tails (stages_of tails) (distance_of tails (variable + 1))) sides allowed
       (λ way fits. none way.node way.target way.head_place way.tail_place (opens way fits))
+
+  -- it is listed exactly where there is a least way
+  pub front_decides : (o : Option FrontWay) → IsLeastFrontWay raw variable value heads tails (price_of costs variable value) bounds (get_or raw.sizes variable 0) o → is_some o ≡ is_some (listed_of raw costs choices bounds variable value)
+  front_decides None least = ap is_some (sym (front_unlisted least))
+  front_decides (Some way) least = ap is_some (sym (front_listed way least))

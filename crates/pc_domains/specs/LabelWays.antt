@@ -1,8 +1,10 @@
 -- The least way through an edge of a value, by the labels of both ends.
-use Rattle.std.specs.Prelude.{◌≡◌, ℕ, ◌+◌, ◌<◌, List, [], ◌∷◌, ◌++◌, length, slice_index, slice_index_or, false, if◌then◌else◌, Option, Some, None, IfSome, option_map}
+use Rattle.std.specs.Prelude.{◌≡◌, ℕ, ◌+◌, ◌<◌, List, [], ◌∷◌, ◌++◌, length, slice_index, slice_index_or, Bool, false, if◌then◌else◌, Option, Some, None, IfSome, option_map}
+use Rattle.pc_diagram.specs.declared.bounds.Bounds.{Bounds}
 use Rattle.pc_diagram.specs.declared.costs.CostPair.{CostPair}
 use Rattle.pc_diagram.specs.declared.raw_diagram.RawDiagram.{RawDiagram}
 use Rattle.pc_diagram.specs.declared.weight.Ranked.{Ranked}
+use Rattle.pc_diagram.specs.Bounds.{allows_pair}
 use Rattle.pc_diagram.specs.Diagram.{IsCanonical}
 use Rattle.pc_diagram.specs.Levels.{edge, level}
 use Rattle.pc_diagram.specs.Weight.{plus_pair}
@@ -56,3 +58,8 @@ IsLeastLabelWay raw variable value heads tails price count (Some way) = IsLeastL
 -- the word of a way: the paths of its nodes, with the value between them
 abbrev pub word_of_label_way : KeptPaths → KeptPaths → ℕ → ℕ → LabelWay → List ℕ
 word_of_label_way heads tails variable value way = path_of (kept_at heads variable way.node) ++ value ∷ path_of (kept_at tails (variable + 1) way.target)
+
+-- there is a way, and bounds allow its costs
+abbrev pub is_allowed_way : Bounds → Option LabelWay → Bool
+is_allowed_way bounds None = false
+is_allowed_way bounds (Some way) = allows_pair bounds way.ranked.pair

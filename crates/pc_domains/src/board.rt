@@ -1,6 +1,6 @@
 //! Boards.
 
-ghost use Rattle.std.specs.Prelude.{◌≡◌, ◌<◌, ◌≤◌, ◌+◌, ◌*◌, length, slice_index, IfOk};
+ghost use Rattle.std.specs.Prelude.{◌≡◌, ◌<◌, ◌≤◌, ◌+◌, ◌*◌, length, slice_index, is_some, IfOk};
 ghost use Rattle.pc_diagram.specs.Diagram.{IsCanonical};
 ghost use Rattle.pc_diagram.specs.Fitting.{fitting};
 ghost use Rattle.pc_diagram.specs.Listing.{items, listing};
@@ -9,8 +9,8 @@ ghost use Rattle.pc_diagram.specs.Paths.{words};
 ghost use Rattle.pc_domains.specs.Boards.{IsBoardOf, slots_before};
 ghost use Rattle.pc_domains.specs.Sides.{IsAsked, listed_of};
 
-use crate::front_listing::listed_by_fronts;
-use crate::label_listing::listed_by_labels;
+use crate::front_listing::{is_listed_by_fronts, listed_by_fronts};
+use crate::label_listing::{is_listed_by_labels, listed_by_labels};
 use pc_base::{NoMemory, Sequence};
 use pc_diagram::{Bounds, Choices, Costs, Diagram, Listed, Listing, Steps};
 use pc_labels::Labels;
@@ -91,6 +91,54 @@ impl Board {
                 )
             }
             _ => Ok(None),
+        }
+    }
+
+    /// Whether a value is listed. It takes no memory.
+    pub fn lists<L: Ledger>(
+        &self,
+        diagram: &Diagram,
+        costs: &Costs,
+        variable: u32,
+        value: u32,
+        steps: &mut Steps<L>,
+    ) -> bool
+        requires variable { variable < length diagram.now.domains }
+        requires value { value < slice_index diagram.now.domains variable }
+        requires costs { AreCostsOf diagram.now.domains costs.now }
+        requires asked { IsAsked diagram.now costs.now self.now.choices variable value }
+        requires board { IsBoardOf diagram.now costs.now self.now }
+        ensures listed { result ≡ is_some (listed_of diagram.now costs.now self.now.choices self.now.bounds variable value) }
+        ensures steps { steps.new ≤ steps.old + slice_index diagram.now.sizes variable }
+    {
+        match (&self.heads, &self.tails) {
+            (Ends::Least(heads), Ends::Least(tails)) => {
+                is_listed_by_labels(
+                    diagram,
+                    costs,
+                    &self.choices,
+                    &self.bounds,
+                    heads,
+                    tails,
+                    variable,
+                    value,
+                    steps,
+                )
+            }
+            (Ends::Pairs(heads), Ends::Pairs(tails)) => {
+                is_listed_by_fronts(
+                    diagram,
+                    costs,
+                    &self.choices,
+                    &self.bounds,
+                    heads,
+                    tails,
+                    variable,
+                    value,
+                    steps,
+                )
+            }
+            _ => false,
         }
     }
 

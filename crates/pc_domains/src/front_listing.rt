@@ -1,6 +1,6 @@
 //! What is listed of a value, by fronts.
 
-ghost use Rattle.std.specs.Prelude.{◌≡◌, ◌<◌, ◌≤◌, ◌+◌, [], length, slice_index, slice_index_or, IfOk};
+ghost use Rattle.std.specs.Prelude.{◌≡◌, ◌<◌, ◌≤◌, ◌+◌, [], length, slice_index, slice_index_or, is_some, IfOk};
 ghost use Rattle.pc_diagram.specs.declared.limits.TheConstants.{MOST_VARIABLES};
 ghost use Rattle.pc_diagram.specs.declared.side.Side.TheVariants.{Heads, Tails};
 ghost use Rattle.pc_diagram.specs.NodePaths.{AreCostsOf};
@@ -60,6 +60,34 @@ pub fn listed_by_fronts<L: Ledger>(
         }
         None => Ok(None),
     }
+}
+
+/// Whether a value is listed, by the same. It takes no memory.
+pub fn is_listed_by_fronts<L: Ledger>(
+    diagram: &Diagram,
+    costs: &Costs,
+    choices: &Choices,
+    bounds: &Bounds,
+    heads: &Fronts,
+    tails: &Fronts,
+    variable: u32,
+    value: u32,
+    steps: &mut Steps<L>,
+) -> bool
+    requires variable { variable < length diagram.now.domains }
+    requires value { value < slice_index diagram.now.domains variable }
+    requires costs { AreCostsOf diagram.now.domains costs.now }
+    requires asked { IsAsked diagram.now costs.now choices.now variable value }
+    requires heads { IsFrontsOf Heads diagram.now costs.now choices.now heads.now }
+    requires tails { IsFrontsOf Tails diagram.now costs.now choices.now tails.now }
+    ensures listed { result ≡ is_some (listed_of diagram.now costs.now choices.now bounds.now variable value) }
+    ensures steps { steps.new ≤ steps.old + slice_index diagram.now.sizes variable }
+{
+    if !allows_value(choices, variable, value) {
+        return false;
+    }
+    let price = price_of(costs, variable, value);
+    least_front_way(diagram, heads, tails, price, bounds, variable, value, steps).is_some()
 }
 
 /// The word of a way.

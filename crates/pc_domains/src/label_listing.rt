@@ -1,10 +1,10 @@
 //! What is listed of a value, by labels.
 
-ghost use Rattle.std.specs.Prelude.{◌≡◌, ◌<◌, ◌≤◌, ◌+◌, [], length, slice_index, slice_index_or, None, IfOk, IsSome};
+ghost use Rattle.std.specs.Prelude.{◌≡◌, ◌<◌, ◌≤◌, ◌+◌, [], length, slice_index, slice_index_or, None, is_some, IfOk, IsSome};
 ghost use Rattle.pc_diagram.specs.declared.limits.TheConstants.{MOST_VARIABLES};
 ghost use Rattle.pc_diagram.specs.Bounds.{allows_pair};
 ghost use Rattle.pc_diagram.specs.NodePaths.{AreCostsOf};
-ghost use Rattle.pc_domains.specs.LabelWays.{word_of_label_way};
+ghost use Rattle.pc_domains.specs.LabelWays.{is_allowed_way, word_of_label_way};
 ghost use Rattle.pc_domains.specs.Sides.{IsAsked, listed_of};
 ghost use Rattle.pc_labels.specs.Kept.{kept_at};
 ghost use Rattle.pc_labels.specs.Labels.{AreHeads, AreTails};
@@ -64,6 +64,46 @@ pub fn listed_by_labels<L: Ledger>(
         second: pair.second,
         word,
     }))
+}
+
+/// Whether a value is listed, by the same. It takes no memory.
+pub fn is_listed_by_labels<L: Ledger>(
+    diagram: &Diagram,
+    costs: &Costs,
+    choices: &Choices,
+    bounds: &Bounds,
+    heads: &Labels,
+    tails: &Labels,
+    variable: u32,
+    value: u32,
+    steps: &mut Steps<L>,
+) -> bool
+    requires variable { variable < length diagram.now.domains }
+    requires value { value < slice_index diagram.now.domains variable }
+    requires costs { AreCostsOf diagram.now.domains costs.now }
+    requires asked { IsAsked diagram.now costs.now choices.now variable value }
+    requires alone { bounds.now.second ≡ None }
+    requires heads { AreHeads diagram.now choices.now costs.now heads.now }
+    requires tails { AreTails diagram.now choices.now costs.now tails.now }
+    ensures listed { result ≡ is_some (listed_of diagram.now costs.now choices.now bounds.now variable value) }
+    ensures steps { steps.new ≤ steps.old + slice_index diagram.now.sizes variable }
+{
+    if !allows_value(choices, variable, value) {
+        return false;
+    }
+    let price = price_of(costs, variable, value);
+    let way = least_label_way(diagram, heads, tails, price, variable, value, steps);
+    is_allowed_way(bounds, &way)
+}
+
+/// Whether there is a way, and its costs keep the bounds that are set.
+fn is_allowed_way(bounds: &Bounds, way: &Option<LabelWay>) -> bool
+    ensures { result ≡ is_allowed_way bounds.now way.now }
+{
+    match way {
+        Some(way) => keeps(bounds, &way.ranked.pair),
+        None => false,
+    }
 }
 
 /// Whether costs keep the bounds that are set.

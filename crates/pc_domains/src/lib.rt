@@ -12,8 +12,8 @@ mod label_way;
 pub mod laws;
 
 pub use board::{Board, Ends};
-pub use front_listing::listed_by_fronts;
+pub use front_listing::{is_listed_by_fronts, listed_by_fronts};
 pub use front_way::{FrontWay, least_front_way};
 pub use join::{Join, least_join};
-pub use label_listing::listed_by_labels;
+pub use label_listing::{is_listed_by_labels, listed_by_labels};
 pub use label_way::{LabelWay, least_label_way};
