@@ -4,6 +4,8 @@ use Rattle.pc_diagram.specs.declared.choice.Choice.{Choice}
 use Rattle.pc_diagram.specs.declared.costs.CostPair.{CostPair}
 use Rattle.pc_diagram.specs.declared.raw_diagram.RawDiagram.{RawDiagram}
 use Rattle.pc_diagram.specs.declared.side.Side.TheVariants.{Heads, Tails}
+use Rattle.pc_diagram.specs.Diagram.{IsCanonical}
+use Rattle.pc_diagram.specs.NodePaths.{AreCostsOf}
 use Rattle.pc_labels.specs.Labels.{AreHeads, AreTails}
 use Rattle.pc_pareto.specs.FrontsView.{IsFrontsOf}
 use Rattle.pc_domains.specs.declared.board.Board.{Board}
@@ -20,8 +22,10 @@ AreEnds raw costs choices (Some most) (Pairs heads) (Pairs tails) = IsFrontsOf H
 AreEnds raw costs choices (Some most) (Pairs heads) (Least tails) = ⊥
 AreEnds raw costs choices (Some most) (Least heads) tails = ⊥
 
--- a board with distinct choices of the diagram's values, and ends that are made for them
+-- a board over a canonical diagram and costs of its values, with distinct choices of these, and ends that are made for them
 pub record IsBoardOf (raw : RawDiagram) (costs : List (List CostPair)) (board : Board) : Type 0 where
+  pub canonical : IsCanonical raw
+  pub costs_of : AreCostsOf raw.domains costs
   pub choices_of : AreDistinctOf raw.domains board.choices
   pub ends : AreEnds raw costs board.choices board.bounds.second board.heads board.tails
 

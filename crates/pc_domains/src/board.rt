@@ -1,13 +1,11 @@
 //! Boards.
 
 ghost use Rattle.std.specs.Prelude.{◌≡◌, ◌<◌, ◌≤◌, ◌+◌, ◌*◌, length, slice_index, is_some, IfOk};
-ghost use Rattle.pc_diagram.specs.Diagram.{IsCanonical};
 ghost use Rattle.pc_diagram.specs.Fitting.{fitting};
 ghost use Rattle.pc_diagram.specs.Listing.{items, listing};
-ghost use Rattle.pc_diagram.specs.NodePaths.{AreCostsOf};
 ghost use Rattle.pc_diagram.specs.Paths.{words};
 ghost use Rattle.pc_domains.specs.Boards.{IsBoardOf, slots_before};
-ghost use Rattle.pc_domains.specs.Sides.{IsAsked, listed_of};
+ghost use Rattle.pc_domains.specs.Sides.{listed_of};
 
 use crate::front_listing::{is_listed_by_fronts, listed_by_fronts};
 use crate::label_listing::{is_listed_by_labels, listed_by_labels};
@@ -55,8 +53,6 @@ impl Board {
     ) -> Result<Option<Listed>, NoMemory>
         requires variable { variable < length diagram.now.domains }
         requires value { value < slice_index diagram.now.domains variable }
-        requires costs { AreCostsOf diagram.now.domains costs.now }
-        requires asked { IsAsked diagram.now costs.now self.now.choices variable value }
         requires board { IsBoardOf diagram.now costs.now self.now }
         ensures listed { IfOk result (λ item. item ≡ listed_of diagram.now costs.now self.now.choices self.now.bounds variable value) }
         ensures steps { steps.new ≤ steps.old + slice_index diagram.now.sizes variable }
@@ -105,8 +101,6 @@ impl Board {
     ) -> bool
         requires variable { variable < length diagram.now.domains }
         requires value { value < slice_index diagram.now.domains variable }
-        requires costs { AreCostsOf diagram.now.domains costs.now }
-        requires asked { IsAsked diagram.now costs.now self.now.choices variable value }
         requires board { IsBoardOf diagram.now costs.now self.now }
         ensures listed { result ≡ is_some (listed_of diagram.now costs.now self.now.choices self.now.bounds variable value) }
         ensures steps { steps.new ≤ steps.old + slice_index diagram.now.sizes variable }
@@ -154,7 +148,6 @@ impl Board {
         costs: &Costs,
         steps: &mut Steps<L>,
     ) -> Result<Listing, NoMemory>
-        requires costs { AreCostsOf diagram.now.domains costs.now }
         requires board { IsBoardOf diagram.now costs.now self.now }
         ensures listing { IfOk result (λ rows. rows ≡ listing costs.now (words diagram.now) self.now.choices self.now.bounds) }
         ensures steps { steps.new ≤ steps.old + slots_before diagram.now (length diagram.now.domains) }
@@ -178,8 +171,6 @@ impl Board {
     ) -> Result<Sequence<Listed>, NoMemory>
         requires variable { variable < length diagram.now.domains }
         requires domain { domain ≡ slice_index diagram.now.domains variable }
-        requires canonical { IsCanonical diagram.now }
-        requires costs { AreCostsOf diagram.now.domains costs.now }
         requires board { IsBoardOf diagram.now costs.now self.now }
         ensures row { IfOk result (λ row. row ≡ items costs.now (fitting costs.now (words diagram.now) self.now.choices self.now.bounds) variable) }
         ensures steps { steps.new ≤ steps.old + domain * slice_index diagram.now.sizes variable }

@@ -46,6 +46,6 @@ returns-clause-listing g c =
     let raw = c.args.diagram.now in
     let costs = c.args.costs.now in
     let row_of = items costs (fitting costs (words raw) c.args.self.now.choices c.args.self.now.bounds) in
-    let many : length costs ≡ length raw.domains = sym (length-map costs length) ∙ ap length c.requires.costs.pairs in
+    let many : length costs ≡ length raw.domains = sym (length-map costs length) ∙ ap length c.requires.board.costs_of.pairs in
     let ends : c.loop-variable.variable ≡ length costs = omega (arith, ap length c.domains-domain-items.ensures.domains, many, c.loop-variable.auto.variable-end) in
     c.loop-variable.invariant.0 ∙ ap (λ n. map row_of (range_with_len 0 n)) ends
