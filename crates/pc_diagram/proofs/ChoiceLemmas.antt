@@ -1,9 +1,9 @@
 -- Choices stay distinct where one of another variable is added, and where some are taken out.
-use Rattle.std.proofs.Common.{◌≡◌, ℕ, Bool, true, false, not, ◌||◌, cond, ◌==◌, List, [], ◌∷◌, ◌++◌, filter, find, is_some, option_map, Some, IsTrue, refl, arith}
+use Rattle.std.proofs.Common.{◌≡◌, ◌≢◌, ℕ, Bool, true, false, not, ◌||◌, cond, ◌==◌, List, [], ◌∷◌, ◌++◌, filter, find, is_some, option_map, Some, None, IsTrue, refl, sym, ap, ◌∙◌, arith}
 use Rattle.std.proofs.lemmas.Bool.{and_parts, and_from, or_parts, or_from, not-true, not_from_false}
 use Rattle.std.proofs.lemmas.Bool.Decides.{nat_tests}
 use Rattle.pc_diagram.specs.declared.choice.Choice.{Choice}
-use Rattle.pc_diagram.specs.Choices.{is_chosen, value_of, are_distinct}
+use Rattle.pc_diagram.specs.Choices.{is_chosen, value_of, without, are_distinct}
 
 eq_comm : (m n : ℕ) → (m == n) ≡ (n == m)
 eq_comm m n = grind (arith, nat_tests)
@@ -47,6 +47,32 @@ is_some-value_of [] variable = refl
 is_some-value_of (c ∷ cs) variable =
     elim (c.variable == variable) as (λ b. is_some (option_map (λ (d : Choice). d.value) (cond b (Some c) (find (λ d. d.variable == variable) cs))) ≡ (b || is_chosen cs variable))
     [ true ↦ refl | false ↦ is_some-value_of cs variable ]
+
+apart : (m n : ℕ) → n ≢ m → (m == n) ≡ false
+apart m n h = grind (arith, nat_tests)
+
+apart_from : (k m n : ℕ) → (k == m) ≡ true → n ≢ m → (k == n) ≡ false
+apart_from k m n e h = grind (arith, nat_tests)
+
+-- what is chosen for a variable stays where a choice of another is added
+pub value_of-push : (cs : List Choice) (c : Choice) (variable : ℕ) → variable ≢ c.variable → value_of (cs ++ c ∷ []) variable ≡ value_of cs variable
+value_of-push [] c variable other =
+    ap (λ b. option_map (λ (d : Choice). d.value) (cond b (Some c) None)) (apart c.variable variable other)
+value_of-push (d ∷ cs) c variable other =
+    elim (d.variable == variable) as (λ b. option_map (λ (e : Choice). e.value) (cond b (Some d) (find (λ e. e.variable == variable) (cs ++ c ∷ []))) ≡ option_map (λ (e : Choice). e.value) (cond b (Some d) (find (λ e. e.variable == variable) cs)))
+    [ true ↦ refl | false ↦ value_of-push cs c variable other ]
+
+-- and where those of another are taken out
+pub value_of-without : (cs : List Choice) (gone variable : ℕ) → variable ≢ gone → value_of (without cs gone) variable ≡ value_of cs variable
+value_of-without [] gone variable other = refl
+value_of-without (d ∷ cs) gone variable other = by (d.variable == gone) refl (value_of-without cs gone variable other)
+  where
+    by : (b : Bool) → (d.variable == gone) ≡ b → value_of (without cs gone) variable ≡ value_of cs variable → value_of (cond (not b) (d ∷ without cs gone) (without cs gone)) variable ≡ value_of (d ∷ cs) variable
+    by true e rest =
+        rest ∙ ap (λ b. option_map (λ (c : Choice). c.value) (cond b (Some d) (find (λ c. c.variable == variable) cs))) (sym (apart_from d.variable gone variable e other))
+    by false e rest =
+        elim (d.variable == variable) as (λ b. option_map (λ (c : Choice). c.value) (cond b (Some d) (find (λ c. c.variable == variable) (without cs gone))) ≡ option_map (λ (c : Choice). c.value) (cond b (Some d) (find (λ c. c.variable == variable) cs)))
+        [ true ↦ refl | false ↦ rest ]
 
 -- for a call that adds a choice
 pub ruleset distinct_steps = (are_distinct-push)

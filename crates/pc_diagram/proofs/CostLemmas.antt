@@ -52,13 +52,3 @@ cost-IsSum costs which word h =
     let few = h.few in
     let range = cost_in_range costs which word h.in_range in
     (omega (arith, ints), omega (arith, ints))
-
--- the cost of a word is that of its head and that of its tail
-pub cost-append : (costs : List (List CostPair)) (which : Which) (head tail : List ℕ) → cost costs which (head ++ tail) ≡ cost costs which head +ℤ cost (drop (length head) costs) which tail
-cost-append costs which [] tail = head_of_none costs
-  where
-    head_of_none : (costs : List (List CostPair)) → cost costs which tail ≡ cost costs which [] +ℤ cost costs which tail
-    head_of_none [] = refl
-    head_of_none (row ∷ rows) = omega (arith, ints)
-cost-append [] which (value ∷ values) tail = refl
-cost-append (row ∷ rows) which (value ∷ values) tail = omega (arith, ints, cost-append rows which values tail)

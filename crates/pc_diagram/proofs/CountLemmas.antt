@@ -21,8 +21,9 @@ use Rattle.pc_diagram.specs.Words.{is_word, all_words}
 use Rattle.pc_diagram.proofs.AnyLemmas.{one_at, passes_at}
 use Rattle.pc_diagram.proofs.EqualWords.{chain_from, domains-levels, accepts-is_word}
 use Rattle.pc_diagram.proofs.LevelLemmas.{drop-levels}
+use Rattle.pc_diagram.proofs.PathLemmas.{accepts-none, is_number-is}
 use Rattle.pc_diagram.proofs.ShapeLemmas.{both, together}
-use Rattle.pc_diagram.proofs.UniqueLemmas.{IsChain, accepts_none, apart, some_word, inside, outside_row, reaches, edge-is}
+use Rattle.pc_diagram.proofs.UniqueLemmas.{IsChain, apart, some_word, inside, outside_row, edge-is}
 use Rattle.pc_diagram.proofs.WordLemmas.{all_words-is, kept_words-is}
 
 -- levels that lead from so many nodes to so many
@@ -44,7 +45,7 @@ domains ls = map (λ l. l.domain) ls
 accepts-walk : (front back : List Level) (x : Option ℕ) (word more : List ℕ) → is_word (domains front) word ≡ true → accepts (front ++ back) x (word ++ more) ≡ accepts back (walk front x word) more
 accepts-walk [] back x [] more h = refl
 accepts-walk [] back x (value ∷ word) more h = absurd cc
-accepts-walk (l ∷ ls) back None word more h = sym (accepts_none back more)
+accepts-walk (l ∷ ls) back None word more h = sym (accepts-none back more)
 accepts-walk (l ∷ ls) back (Some node) [] more h = absurd cc
 accepts-walk (l ∷ ls) back (Some node) (value ∷ word) more h =
     accepts-walk ls back (edge l node value) word more (both (nat_lt value l.domain) (is_word (domains ls) word) h).1
@@ -78,7 +79,7 @@ led size (l ∷ ls) count h node lt =
     let row_lt : start < l.size = (div-lt_iff_lt-mul {k = l.domain} {x = i} {y = l.size} some).1 small in
     let value_lt : value < l.domain = omega arith in
     let there : start * l.domain + value ≡ i = omega arith in
-    let target : edge l start value ≡ Some later.start = edge-is l start value value_lt ∙ ap (λ j. get_or l.table j None) there ∙ reaches (get_or l.table i None) later.start p.2 in
+    let target : edge l start value ≡ Some later.start = edge-is l start value value_lt ∙ ap (λ j. get_or l.table j None) there ∙ is_number-is (get_or l.table i None) later.start p.2 in
     record {
       start = start;
       word = value ∷ later.word;
@@ -133,7 +134,7 @@ none_kept ls = by (all_words (domains ls))
   where
     by : (words : List (List ℕ)) → filter (accepts ls None) words ≡ []
     by [] = refl
-    by (word ∷ words) = ap (λ b. cond b (word ∷ filter (accepts ls None) words) (filter (accepts ls None) words)) (accepts_none ls word) ∙ by words
+    by (word ∷ words) = ap (λ b. cond b (word ∷ filter (accepts ls None) words) (filter (accepts ls None) words)) (accepts-none ls word) ∙ by words
 
 -- values of a function on numbers from one on, which all differ
 distinct_range : (f : ℕ → List (List ℕ)) (a n : ℕ) → ((i j : ℕ) → a ≤ i → i < j → j < a + n → same (f i) (f j) ≡ false) → IsDistinct same (map f (range_with_len a n))

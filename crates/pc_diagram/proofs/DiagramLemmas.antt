@@ -2,7 +2,7 @@
 use Rattle.std.proofs.Common.{◌≡◌, ℕ, zero, suc, ◌+◌, ◌*◌, ◌-◌, ◌<◌, ◌≤◌, ◌==◌, nat_lt, nat_le, nat_eq, Bool, true, false, ◌&&◌, ◌||◌, List, [], ◌∷◌, length, take, drop, get_or, is_some, sum, Option, Some, None, option_map, refl, sym, ap, ◌∙◌, arith, length-drop}
 use Rattle.std.specs.Cmp.Lexicographic.{pointwise_decides}
 use Rattle.std.specs.List.{list_any, range_with_len}
-use Rattle.std.specs.Option.{option_eq}
+use Rattle.std.specs.Option.{option_eq, option_or}
 use Rattle.std.proofs.lemmas.Bool.{both_ways}
 use Rattle.std.proofs.lemmas.Bool.Decides.{nat_tests}
 use Rattle.std.proofs.lemmas.List.{drop-drop, take-append-drop}
@@ -14,7 +14,7 @@ use Rattle.pc_diagram.specs.declared.flaw.Flaw.TheVariants.{EdgeOut, Dead, Unrea
 use Rattle.pc_diagram.specs.declared.place.Place.{Place}
 use Rattle.pc_diagram.specs.declared.raw_diagram.RawDiagram.{RawDiagram}
 use Rattle.pc_diagram.specs.Diagram.{IsShapedLevel, IsShaped, IsCanonicalLevel, IsCanonical}
-use Rattle.pc_diagram.specs.DiagramFaults.{is_outside, same_edges, leads_out, is_dead, is_unreached, is_twin, met, flawed_node, layer_of, place_or, flawed_place, fault_at, fault_or, fault_among}
+use Rattle.pc_diagram.specs.DiagramFaults.{is_outside, same_edges, leads_out, is_dead, is_unreached, is_twin, met, flawed_node, layer_of, place_or, flawed_place, fault_at, fault_among}
 use Rattle.pc_diagram.specs.Fitting.{is_number}
 use Rattle.pc_diagram.specs.Levels.{Level, level, levels, row}
 use Rattle.pc_diagram.proofs.AnyLemmas.{none_weaker, none_of_range, among_range}
@@ -27,7 +27,7 @@ use Rattle.pc_diagram.proofs.TurnLemmas.{in_turn, met-any}
 none_told : (raw : RawDiagram) (flaw : Flaw) (flaws : List Flaw) → fault_among raw (flaw ∷ flaws) ≡ None → (flawed_place flaw 0 (levels raw) ≡ None) × (fault_among raw flaws ≡ None)
 none_told raw flaw flaws h = by (flawed_place flaw 0 (levels raw)) h
   where
-    by : (p : Option Place) → fault_or (option_map (fault_at flaw) p) (fault_among raw flaws) ≡ None → (p ≡ None) × (fault_among raw flaws ≡ None)
+    by : (p : Option Place) → option_or (option_map (fault_at flaw) p) (fault_among raw flaws) ≡ None → (p ≡ None) × (fault_among raw flaws ≡ None)
     by None e = (refl, e)
     by (Some p) e = absurd cc
 

@@ -13,8 +13,9 @@ use Rattle.pc_diagram.specs.Paths.{accepts, words}
 use Rattle.pc_diagram.specs.Words.{is_word}
 use Rattle.pc_diagram.proofs.DiagramLemmas.{row-is}
 use Rattle.pc_diagram.proofs.LevelLemmas.{length-levels, drop-levels, drop-levels-end}
+use Rattle.pc_diagram.proofs.PathLemmas.{accepts-none}
 use Rattle.pc_diagram.proofs.ShapeLemmas.{together}
-use Rattle.pc_diagram.proofs.UniqueLemmas.{IsChain, accepts_none, same_levels, some_word}
+use Rattle.pc_diagram.proofs.UniqueLemmas.{IsChain, same_levels, some_word}
 use Rattle.pc_diagram.proofs.WordLemmas.{kept_words-is}
 
 -- the levels of canonical tables, from a variable on
@@ -43,7 +44,7 @@ no_edge l node value le = get_or_past (row l node) value None (let short = ap le
 
 -- what has an accepted word is a node
 some_node : (ls : List Level) (x : Option ℕ) (word : List ℕ) → accepts ls x word ≡ true → x ≡ None → ⊥
-some_node ls x word h e = both_ways (accepts ls x word) (ap (λ y. accepts ls y word) e ∙ accepts_none ls word) h
+some_node ls x word h e = both_ways (accepts ls x word) (ap (λ y. accepts ls y word) e ∙ accepts-none ls word) h
 
 -- what is accepted is a word
 pub accepts-is_word : (ls : List Level) (x : Option ℕ) (word : List ℕ) → accepts ls x word ≡ true → is_word (map (λ l. l.domain) ls) word ≡ true

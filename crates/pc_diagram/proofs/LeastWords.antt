@@ -118,7 +118,7 @@ all_among P word (other ∷ words) h among = by (pointwise nat_eq word other) re
     by true e k rest = subst P (sym ((bytes_eq-Decides word other).0 e)) (All-head P other words h)
     by false e k rest = rest k
 
-comes_before-irreflexive : (word : List ℕ) → comes_before word word ≡ false
+pub comes_before-irreflexive : (word : List ℕ) → comes_before word word ≡ false
 comes_before-irreflexive [] = refl
 comes_before-irreflexive (value ∷ word) = by (nat_lt value value) (value == value) refl (comes_before-irreflexive word)
   where

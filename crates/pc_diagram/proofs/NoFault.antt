@@ -1,6 +1,7 @@
 -- Tables have no fault exactly where they are those of a canonical diagram.
 use Rattle.std.proofs.Common.{◌≡◌, ℕ, suc, ◌+◌, ◌*◌, ◌<◌, not, List, [], ◌∷◌, length, get_or, drop, Option, Some, None, option_map, refl, sym, ap, ◌∙◌, arith}
 use Rattle.std.specs.List.{list_any}
+use Rattle.std.specs.Option.{option_or}
 use Rattle.std.proofs.lemmas.Bool.{false_from_ne_true}
 use Rattle.std.proofs.lemmas.List.FromFn.{get_or-map-range_with_len}
 use Rattle.pc_diagram.specs.declared.diagram_fault.DiagramFault.TheVariants as Fault
@@ -8,7 +9,7 @@ use Rattle.pc_diagram.specs.declared.flaw.Flaw.{Flaw}
 use Rattle.pc_diagram.specs.declared.flaw.Flaw.TheVariants.{EdgeOut, Dead, Unreached, Twin, Order}
 use Rattle.pc_diagram.specs.declared.raw_diagram.RawDiagram.{RawDiagram}
 use Rattle.pc_diagram.specs.Diagram.{IsCanonicalLevel, IsCanonical}
-use Rattle.pc_diagram.specs.DiagramFaults.{is_outside, same_edges, leads_out, is_dead, is_unreached, is_twin, out_of_turn, flawed_node, layer_of, place_or, flawed_place, fault_at, fault_or, fault_among, first_fault}
+use Rattle.pc_diagram.specs.DiagramFaults.{is_outside, same_edges, leads_out, is_dead, is_unreached, is_twin, out_of_turn, flawed_node, layer_of, place_or, flawed_place, fault_at, fault_among, first_fault}
 use Rattle.pc_diagram.specs.DiagramShape.{misshapen_layer}
 use Rattle.pc_diagram.specs.Levels.{Level, level, levels, row}
 use Rattle.pc_diagram.proofs.AnyLemmas.{none_in_take, none_in_drop, all_fail_in_range}
@@ -42,16 +43,16 @@ none_stands raw h flaw = none_in flaw (levels raw) 0 (level raw 0)
 none_among : (raw : RawDiagram) → IsCanonical raw → (flaws : List Flaw) → fault_among raw flaws ≡ None
 none_among raw h [] = refl
 none_among raw h (flaw ∷ flaws) =
-    ap (λ place. fault_or (option_map (fault_at flaw) place) (fault_among raw flaws)) (none_stands raw h flaw) ∙ none_among raw h flaws
+    ap (λ place. option_or (option_map (fault_at flaw) place) (fault_among raw flaws)) (none_stands raw h flaw) ∙ none_among raw h flaws
 
 pub canonical_no_fault : (raw : RawDiagram) → IsCanonical raw → first_fault raw ≡ None
 canonical_no_fault raw h =
-    ap (λ layer. fault_or (option_map (λ k. Fault.Shape k 0) layer) (fault_among raw (EdgeOut ∷ Dead ∷ Unreached ∷ Twin ∷ Order ∷ []))) (shaped_none raw h.shape)
+    ap (λ layer. option_or (option_map (λ k. Fault.Shape k 0) layer) (fault_among raw (EdgeOut ∷ Dead ∷ Unreached ∷ Twin ∷ Order ∷ []))) (shaped_none raw h.shape)
     ∙ none_among raw h (EdgeOut ∷ Dead ∷ Unreached ∷ Twin ∷ Order ∷ [])
 
 pub no_fault_canonical : (raw : RawDiagram) → first_fault raw ≡ None → IsCanonical raw
 no_fault_canonical raw h = by (misshapen_layer raw) refl h
   where
-    by : (layer : Option ℕ) → misshapen_layer raw ≡ layer → fault_or (option_map (λ k. Fault.Shape k 0) layer) (fault_among raw (EdgeOut ∷ Dead ∷ Unreached ∷ Twin ∷ Order ∷ [])) ≡ None → IsCanonical raw
+    by : (layer : Option ℕ) → misshapen_layer raw ≡ layer → option_or (option_map (λ k. Fault.Shape k 0) layer) (fault_among raw (EdgeOut ∷ Dead ∷ Unreached ∷ Twin ∷ Order ∷ [])) ≡ None → IsCanonical raw
     by None e none = none_flawed raw (none_misshapen raw e) none
     by (Some layer) e none = absurd cc

@@ -16,6 +16,7 @@ use Rattle.pc_diagram.specs.NodePaths.{leads_to, is_allowed, agrees, is_head, is
 use Rattle.pc_diagram.specs.Paths.{accepts, has_word}
 use Rattle.pc_diagram.specs.Words.{is_word}
 use Rattle.pc_diagram.proofs.LevelLemmas.{length-levels}
+use Rattle.pc_diagram.proofs.ShapeLemmas.{both, together}
 
 -- from no node values lead nowhere
 pub leads_to-none : (ls : List Level) (word : List ℕ) → leads_to ls None word ≡ None
@@ -74,32 +75,15 @@ length-word (d ∷ ds) (value ∷ word) h = by (nat_lt value d) h (length-word d
     by true e rest = ap suc (rest e)
     by false e rest = absurd cc
 
-plus_assoc : (a b c : ℤ) → (a +ℤ (b +ℤ c)) ≡ ((a +ℤ b) +ℤ c)
-plus_assoc a b c = omega (arith, ints)
-
-plus_none : (a : ℤ) → a ≡ (pos 0 +ℤ a)
-plus_none a = omega (arith, ints)
-
-none_there : (which : Which) (v : List ℕ) → cost [] which v ≡ (pos 0 +ℤ cost [] which v)
-none_there which v = plus_none (cost [] which v)
-
--- a word costs what both parts of it cost
-pub cost-append : (costs : List (List CostPair)) (which : Which) (u v : List ℕ) → cost costs which (u ++ v) ≡ (cost costs which u +ℤ cost (drop (length u) costs) which v)
-cost-append [] which [] v = none_there which v
-cost-append [] which (value ∷ u) v = refl
-cost-append (row ∷ rows) which [] v = plus_none (cost (row ∷ rows) which v)
-cost-append (row ∷ rows) which (value ∷ u) v =
-    ap (λ z. part which (pair_at row value) +ℤ z) (cost-append rows which u v)
-    ∙ plus_assoc (part which (pair_at row value)) (cost rows which u) (cost (drop (length u) rows) which v)
-
-both : (a b : Bool) → (a && b) ≡ true → (a ≡ true) × (b ≡ true)
-both true true h = (refl, refl)
-both true false h = absurd cc
-both false b h = absurd cc
-
-together : (a b : Bool) → a ≡ true → b ≡ true → (a && b) ≡ true
-together true b h k = k
-together false b h k = absurd cc
+-- the cost of a word is that of its head and that of its tail
+pub cost-append : (costs : List (List CostPair)) (which : Which) (head tail : List ℕ) → cost costs which (head ++ tail) ≡ cost costs which head +ℤ cost (drop (length head) costs) which tail
+cost-append costs which [] tail = head_of_none costs
+  where
+    head_of_none : (costs : List (List CostPair)) → cost costs which tail ≡ cost costs which [] +ℤ cost costs which tail
+    head_of_none [] = refl
+    head_of_none (row ∷ rows) = omega (arith, ints)
+cost-append [] which (value ∷ values) tail = refl
+cost-append (row ∷ rows) which (value ∷ values) tail = omega (arith, ints, cost-append rows which values tail)
 
 -- the node that a head leads to
 abbrev pub middle : RawDiagram → List ℕ → Option ℕ

@@ -13,7 +13,9 @@ use Rattle.pc_diagram.specs.Levels.{Level, row, edge}
 use Rattle.pc_diagram.specs.Paths.{accepts}
 use Rattle.pc_diagram.proofs.AnyLemmas.{neither, none_at, none_in_take, none_in_drop, one_at}
 use Rattle.pc_diagram.proofs.DiagramLemmas.{row-is}
+use Rattle.pc_diagram.proofs.PathLemmas.{accepts-none, is_number-is}
 use Rattle.pc_diagram.proofs.TurnLemmas.{missed_turn, out_of_turn-met, out_of_turn-range}
+pub use Rattle.pc_diagram.proofs.PathLemmas.{accepts-none as accepts_none, is_number-is as reaches}
 
 -- levels of which each has the nodes that the one before leads to, down to one node
 abbrev pub IsChain : ℕ → List Level → Type 0
@@ -23,10 +25,6 @@ IsChain size (l ∷ ls) = (l.size ≡ size) × IsShapedLevel l × IsCanonicalLev
 -- two nodes, or none, have the same words
 abbrev pub Same : List Level → List Level → Option ℕ → Option ℕ → Type 0
 Same ls ms x y = (word : List ℕ) → accepts ls x word ≡ accepts ms y word
-
-pub accepts_none : (ls : List Level) (word : List ℕ) → accepts ls None word ≡ false
-accepts_none [] word = refl
-accepts_none (l ∷ ls) word = refl
 
 -- an edge leads to a node of the next layer
 pub outside_row : (l : Level) → IsCanonicalLevel l → (node value : ℕ) → is_outside l.next (edge l node value) ≡ false
@@ -57,9 +55,9 @@ same_edge : (next : ℕ) (ls : List Level) → IsChain next ls → ((a b : ℕ) 
     (x y : Option ℕ) → is_outside next x ≡ false → is_outside next y ≡ false → Same ls ls x y → x ≡ y
 same_edge next ls h apart None None p q s = refl
 same_edge next ls h apart None (Some b) p q s =
-    let one = some_word next ls h b (inside next (Some b) b q refl) in absurd (both_ways (accepts ls (Some b) one.0) (sym (s one.0) ∙ accepts_none ls one.0) one.1)
+    let one = some_word next ls h b (inside next (Some b) b q refl) in absurd (both_ways (accepts ls (Some b) one.0) (sym (s one.0) ∙ accepts-none ls one.0) one.1)
 same_edge next ls h apart (Some a) None p q s =
-    let one = some_word next ls h a (inside next (Some a) a p refl) in absurd (both_ways (accepts ls (Some a) one.0) (s one.0 ∙ accepts_none ls one.0) one.1)
+    let one = some_word next ls h a (inside next (Some a) a p refl) in absurd (both_ways (accepts ls (Some a) one.0) (s one.0 ∙ accepts-none ls one.0) one.1)
 same_edge next ls h apart (Some a) (Some b) p q s = ap Some (apart a b (inside next (Some a) a p refl) (inside next (Some b) b q refl) s)
 
 -- a row has an edge for each value
@@ -143,11 +141,11 @@ module _ (ls ms : List Level) (na nb : ℕ) (h : IsChain na ls) (k : IsChain nb 
   same_table (None ∷ xs) (Some y ∷ ys) turn len p q s e f below =
       let two = neither (is_outside nb (Some y)) (list_any (is_outside nb) ys) q in
       let one = some_word nb ms k y (inside nb (Some y) y two.0 refl) in
-      absurd (both_ways (accepts ms (Some y) one.0) (sym (s 0 one.0) ∙ accepts_none ls one.0) one.1)
+      absurd (both_ways (accepts ms (Some y) one.0) (sym (s 0 one.0) ∙ accepts-none ls one.0) one.1)
   same_table (Some x ∷ xs) (None ∷ ys) turn len p q s e f below =
       let two = neither (is_outside na (Some x)) (list_any (is_outside na) xs) p in
       let one = some_word na ls h x (inside na (Some x) x two.0 refl) in
-      absurd (both_ways (accepts ls (Some x) one.0) (s 0 one.0 ∙ accepts_none ms one.0) one.1)
+      absurd (both_ways (accepts ls (Some x) one.0) (s 0 one.0 ∙ accepts-none ms one.0) one.1)
   same_table (Some x ∷ xs) (Some y ∷ ys) turn len p q s e f below =
       let a = neither (is_outside na (Some x)) (list_any (is_outside na) xs) p in
       let b = neither (is_outside nb (Some y)) (list_any (is_outside nb) ys) q in
@@ -181,16 +179,12 @@ same_words_at l m ls ms sl sm ed es s i word = by (nat_lt i (length l.table)) re
     by false e =
         let width : length l.table ≡ length m.table = sl.width ∙ ap (λ d. l.size * d) ed ∙ ap (λ n. n * m.domain) es ∙ sym sm.width in
         let past : length l.table ≤ i = grind (arith, nat_tests) in
-        ap (λ x. accepts ls x word) (get_or_past l.table i None past) ∙ accepts_none ls word
-        ∙ sym (ap (λ x. accepts ms x word) (get_or_past m.table i None (omega arith)) ∙ accepts_none ms word)
+        ap (λ x. accepts ls x word) (get_or_past l.table i None past) ∙ accepts-none ls word
+        ∙ sym (ap (λ x. accepts ms x word) (get_or_past m.table i None (omega arith)) ∙ accepts-none ms word)
 
 -- no turn is missed at a canonical level
 no_turn_missed : (l : Level) → IsCanonicalLevel l → missed_turn 0 l.table ≡ None
 no_turn_missed l h = sym (out_of_turn-met l.table) ∙ ap (out_of_turn 0) h.ordered ∙ out_of_turn-range 0 l.next
-
-pub reaches : (x : Option ℕ) (node : ℕ) → is_number x node ≡ true → x ≡ Some node
-reaches None node h = absurd cc
-reaches (Some t) node h = let same : t ≡ node = grind (arith, nat_tests) in ap Some same
 
 -- levels with the same words are the same
 pub same_levels : (size : ℕ) (ls ms : List Level) → IsChain size ls → IsChain size ms → map (λ l. l.domain) ls ≡ map (λ l. l.domain) ms → ((node : ℕ) → node < size → Same ls ms (Some node) (Some node)) → ls ≡ ms
@@ -209,7 +203,7 @@ same_levels size (l ∷ ls) (m ∷ ms) h k d s =
     let more = same_levels l.next ls ms h.3 (subst (λ n. IsChain n ms) (sym en) k.3) rest
     (λ node lt word.
     let p = one_at (λ target. is_number target node) l.table None (h.2.reached node lt) in
-    let here = reaches (get_or l.table p.0 None) node p.2 in
+    let here = is_number-is (get_or l.table p.0 None) node p.2 in
     let there : get_or m.table p.0 None ≡ Some node = ap (λ xs. get_or xs p.0 None) (sym et) ∙ here in
     ap (λ x. accepts ls x word) (sym here) ∙ at p.0 word ∙ ap (λ x. accepts ms x word) there) in
     λ i. record { domain = ed i; size = es i; next = en i; table = et i } ∷ more i

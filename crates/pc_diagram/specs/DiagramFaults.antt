@@ -2,7 +2,7 @@
 use Rattle.std.specs.Prelude.{ℕ, ◌+◌, ◌==◌, nat_lt, nat_eq, Bool, false, not, if◌then◌else◌, List, [], ◌∷◌, map, filter, Option, None, Some, is_some, option_map}
 use Rattle.std.specs.Cmp.Lexicographic.{pointwise}
 use Rattle.std.specs.List.{range_with_len, list_any}
-use Rattle.std.specs.Option.{option_eq}
+use Rattle.std.specs.Option.{option_eq, option_or}
 use Rattle.pc_diagram.specs.declared.diagram_fault.DiagramFault.{DiagramFault}
 use Rattle.pc_diagram.specs.declared.diagram_fault.DiagramFault.TheVariants as Fault
 use Rattle.pc_diagram.specs.declared.flaw.Flaw.{Flaw}
@@ -83,18 +83,13 @@ fault_at Unreached place = Fault.Unreached place.layer place.node
 fault_at Twin place = Fault.Twin place.layer place.node
 fault_at Order place = Fault.Order place.layer place.node
 
--- a fault, or a later one
-abbrev pub fault_or : Option DiagramFault → Option DiagramFault → Option DiagramFault
-fault_or None later = later
-fault_or (Some fault) later = Some fault
-
 -- the fault of the first of these flaws that stands somewhere
 abbrev pub fault_among : RawDiagram → List Flaw → Option DiagramFault
 fault_among raw [] = None
-fault_among raw (flaw ∷ flaws) = fault_or (option_map (fault_at flaw) (flawed_place flaw 0 (levels raw))) (fault_among raw flaws)
+fault_among raw (flaw ∷ flaws) = option_or (option_map (fault_at flaw) (flawed_place flaw 0 (levels raw))) (fault_among raw flaws)
 
 -- the fault of tables, if they have one: their shape comes first, and then the flaws in their order
 abbrev pub first_fault : RawDiagram → Option DiagramFault
 first_fault raw =
-    fault_or (option_map (λ layer. Fault.Shape layer 0) (misshapen_layer raw))
+    option_or (option_map (λ layer. Fault.Shape layer 0) (misshapen_layer raw))
     (fault_among raw (EdgeOut ∷ Dead ∷ Unreached ∷ Twin ∷ Order ∷ []))

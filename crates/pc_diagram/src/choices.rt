@@ -1,7 +1,8 @@
 //! Choices of values for variables.
 
-ghost use Rattle.std.specs.Prelude.{◌≡◌, [], ◌∷◌, ◌++◌, false, IsTrue, IfOk, OnOk, OnErr};
+ghost use Rattle.std.specs.Prelude.{◌≡◌, ◌↔◌, [], ◌∷◌, ◌++◌, false, IsTrue, IfOk, OnOk, OnErr};
 ghost use Rattle.pc_diagram.specs.Choices.{is_chosen, value_of, without, are_distinct};
+ghost use Rattle.pc_diagram.specs.NodePaths.{AreChoicesOf, IsChoiceOf};
 
 use crate::choice::Choice;
 use pc_base::NoMemory;
@@ -77,5 +78,25 @@ impl Choices {
         let mut items = Vec::from_slice(alloc, self.items.as_slice())?;
         items.retain(|choice| choice.variable != variable);
         Ok(Choices { items })
+    }
+}
+
+/// Whether choices are those of a diagram's values, whose variables take so many.
+pub fn are_choices_of(domains: &[u32], choices: &Choices) -> bool
+    ensures { IsTrue result ↔ AreChoicesOf domains.now choices.now }
+{
+    choices
+        .as_slice()
+        .iter()
+        .all(|choice| is_choice_of(domains, *choice))
+}
+
+/// Whether a choice is of one of the values of variables that take so many.
+fn is_choice_of(domains: &[u32], choice: Choice) -> bool
+    ensures { IsTrue result ↔ IsChoiceOf domains.now choice }
+{
+    match domains.get(choice.variable as usize) {
+        Some(domain) => choice.value < *domain,
+        None => false,
     }
 }

@@ -1,8 +1,9 @@
 //! What words cost.
 
-ghost use Rattle.std.specs.Prelude.{◌≡◌, ◌↔◌, IsTrue, All};
+ghost use Rattle.std.specs.Prelude.{◌≡◌, ◌↔◌, IsTrue, All, length, map};
 ghost use Rattle.std.specs.Option.{option_copied};
 ghost use Rattle.pc_diagram.specs.Costs.{cost, cost_pair, part_taken, IsPrice, IsPricePair, IsPriced};
+ghost use Rattle.pc_diagram.specs.NodePaths.{AreCostsOf};
 
 use crate::costs::{CostPair, Costs};
 use crate::limits::MOST_VARIABLES;
@@ -43,6 +44,28 @@ pub fn is_priced(costs: &Costs) -> bool
     ensures { IsTrue result ↔ IsPriced costs.now }
 {
     costs.len() <= MOST_VARIABLES && costs.as_slice().iter().all(|row| has_prices(row))
+}
+
+/// Whether costs are those of a diagram's values, whose variables take so many: a pair for each value, each part in range.
+pub fn are_costs_of(domains: &[u32], costs: &Costs) -> bool
+    ensures { IsTrue result ↔ AreCostsOf domains.now costs.now }
+{
+    has_pairs(domains, costs) && is_priced(costs)
+}
+
+/// Whether there is a pair for each value of variables that take so many.
+fn has_pairs(domains: &[u32], costs: &Costs) -> bool
+    ensures { IsTrue result ↔ (map length costs.now ≡ domains.now) }
+{
+    if costs.len() != domains.len() {
+        return false;
+    }
+    for (variable, row) in costs.as_slice().iter().enumerate() {
+        if row.len() != domains[variable] as usize {
+            return false;
+        }
+    }
+    true
 }
 
 /// Whether each part of each pair of a row is in range.

@@ -1,6 +1,6 @@
 //! Laws of the definitions. Each function's contract is a law; nothing calls them.
 
-ghost use Rattle.std.specs.Prelude.{◌≡◌, ◌<◌, ◌↔◌, ℕ, pos, List, [], ◌∷◌, length, map, filter, All, Some, None, is_some, false, not, ◌&&◌, ◌||◌};
+ghost use Rattle.std.specs.Prelude.{◌≡◌, ◌≢◌, ◌<◌, ◌↔◌, ℕ, pos, List, [], ◌∷◌, ◌++◌, length, map, filter, All, Some, None, is_some, false, not, ◌&&◌, ◌||◌};
 ghost use Rattle.std.specs.List.{range_with_len};
 ghost use Rattle.pc_diagram.specs.declared.bounds.Bounds.{Bounds};
 ghost use Rattle.pc_diagram.specs.declared.choice.Choice.{Choice};
@@ -8,7 +8,7 @@ ghost use Rattle.pc_diagram.specs.declared.costs.CostPair.{CostPair};
 ghost use Rattle.pc_diagram.specs.declared.which.Which.{Which};
 ghost use Rattle.pc_diagram.specs.declared.which.Which.TheVariants.{First, Second};
 ghost use Rattle.pc_diagram.specs.Bounds.{no_bounds};
-ghost use Rattle.pc_diagram.specs.Choices.{is_chosen, value_of};
+ghost use Rattle.pc_diagram.specs.Choices.{is_chosen, value_of, without};
 ghost use Rattle.pc_diagram.specs.Costs.{cost, IsPriced, IsSum};
 ghost use Rattle.pc_diagram.specs.Best.{best, is_cheaper_word, IsFirstUnbeaten};
 ghost use Rattle.pc_diagram.specs.Fitting.{takes, fitting};
@@ -80,4 +80,12 @@ pub fn listing_has_the_valid_values()
 pub fn chosen_has_a_value()
     ensures { (choices : List Choice) (variable : ℕ)
         → is_some (value_of choices variable) ≡ is_chosen choices variable }
+{}
+
+/// What is chosen for a variable stays where a choice of another one is added, and where those of another one are taken out.
+pub fn choices_of_other_variables_stay()
+    ensures added { (choices : List Choice) (choice : Choice) (variable : ℕ) → variable ≢ choice.variable
+        → value_of (choices ++ choice ∷ []) variable ≡ value_of choices variable }
+    ensures taken_out { (choices : List Choice) (gone variable : ℕ) → variable ≢ gone
+        → value_of (without choices gone) variable ≡ value_of choices variable }
 {}

@@ -33,8 +33,8 @@ mod word;
 
 pub use bounds::Bounds;
 pub use choice::Choice;
-pub use choices::Choices;
-pub use costing::is_priced;
+pub use choices::{Choices, are_choices_of};
+pub use costing::{are_costs_of, is_priced};
 pub use costs::{CostPair, Costs};
 pub use diagram::Diagram;
 pub use diagram_fault::DiagramFault;

@@ -24,23 +24,14 @@ use Rattle.pc_diagram.specs.NodePaths.{leads_to, is_allowed, agrees, is_head, is
 use Rattle.pc_diagram.specs.Paths.{accepts}
 use Rattle.pc_diagram.specs.Words.{is_word, all_words}
 use Rattle.pc_diagram.proofs.LevelLemmas.{length-levels, drop-levels}
-use Rattle.pc_diagram.proofs.PathLemmas.{leads_to-append, agrees-append, is_word-append, length-word, is_number-is, accepts-none}
-use Rattle.pc_diagram.proofs.CostLemmas.{cost-append}
+use Rattle.pc_diagram.proofs.PathLemmas.{leads_to-append, agrees-append, is_word-append, length-word, is_number-is, accepts-none, cost-append}
+use Rattle.pc_diagram.proofs.ShapeLemmas.{both, together}
 use Rattle.pc_diagram.proofs.UniqueLemmas.{edge-is, outside_row, inside}
 use Rattle.pc_diagram.proofs.WordLemmas.{all_words-is}
 use Rattle.pc_pareto.specs.declared.arrival.Arrival.{Arrival}
 use Rattle.pc_pareto.specs.Arrivals.{IsArrival}
 use Rattle.pc_pareto.specs.Stages.{plus}
 use Rattle.pc_pareto.proofs.FrontLemmas.{of_filter, in_filter}
-
-both : (a b : Bool) → (a && b) ≡ true → (a ≡ true) × (b ≡ true)
-both true true h = (refl, refl)
-both true false h = absurd cc
-both false b h = absurd cc
-
-together : (a b : Bool) → a ≡ true → b ≡ true → (a && b) ≡ true
-together true b h k = k
-together false b h k = absurd cc
 
 -- the words of a list of words over domains that pass a test
 pub words_in : (test : List ℕ → Bool) (ds w : List ℕ) → Contains (filter test (all_words ds)) w → (is_word ds w ≡ true) × (test w ≡ true)
