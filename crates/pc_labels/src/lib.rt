@@ -7,6 +7,7 @@ mod from_end;
 mod from_root;
 mod label;
 mod labels;
+pub mod laws;
 mod layer;
 mod ranks;
 mod shared_layer;
