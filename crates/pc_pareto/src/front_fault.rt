@@ -8,7 +8,7 @@ use thiserror::Error;
 #[derive(Clone, Copy, Debug, PartialEq, Eq, Error)]
 pub enum FrontFault {
     /// The fronts of a side have more than 1,048,576 pairs; the layer is the first, from the side's end, at which they have.
-    #[error("label limit")]
+    #[error("label-limit {side} {layer}")]
     LabelLimit { side: Side, layer: u32 },
 
     #[error("out of memory")]
