@@ -1,0 +1,5 @@
+-- The ledger of the blank.
+use Rattle.pc_bench_ends.proofs.main.Given as goal
+
+abbrev pub ghosts-measure : goal.ghosts-measure
+ghosts-measure a = record { name = a.blank.name; parts = a.blank.parts }
