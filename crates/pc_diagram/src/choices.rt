@@ -60,6 +60,15 @@ impl Choices {
             .map(|choice| choice.value)
     }
 
+    /// A copy of these choices.
+    pub fn copy(&self, alloc: Global) -> Result<Choices, NoMemory>
+        ensures { IfOk result (λ choices. choices ≡ self.now) }
+    {
+        Ok(Choices {
+            items: Vec::from_slice(alloc, self.items.as_slice())?,
+        })
+    }
+
     /// These choices, with one more at the end, of a variable that isn't chosen.
     #[tactic(auto, using(crate::proofs::ChoiceLemmas::distinct_steps))]
     pub fn with(&self, alloc: Global, variable: u32, value: u32) -> Result<Choices, NoMemory>

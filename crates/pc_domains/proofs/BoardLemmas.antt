@@ -6,7 +6,7 @@ use Rattle.std.proofs.lemmas.List.{append-nil}
 use Rattle.std.proofs.lemmas.List.Elements.{filter_map-append}
 use Rattle.pc_diagram.specs.declared.listed.Listed.{Listed}
 use Rattle.pc_diagram.specs.declared.raw_diagram.RawDiagram.{RawDiagram}
-use Rattle.pc_domains.specs.Boards.{slots_before}
+use Rattle.pc_domains.specs.Slots.{slots_before}
 
 range_more : (first count : ℕ) → range_with_len first (count + 1) ≡ range_with_len first count ++ (first + count) ∷ []
 range_more first zero = let here : first ≡ first + 0 = omega arith in ap (λ n. n ∷ []) here

@@ -1,4 +1,8 @@
 pub mod BoardLemmas
+pub mod ChangeLemmas
+pub mod EndLemmas
+pub mod MadeLemmas
+pub mod SlotLemmas
 pub mod AgreeLemmas
 pub mod FitLemmas
 pub mod FrontListedLemmas

@@ -1,9 +1,13 @@
+pub mod BoardFaults
 pub mod Boards
+pub mod Ends
 pub mod FrontPaths
 pub mod FrontWays
 pub mod Joins
+pub mod LabelLimits
 pub mod LabelPaths
 pub mod LabelWays
 pub mod Orders
 pub mod Sides
+pub mod Slots
 pub mod Ways

@@ -1,29 +1,27 @@
 //! Boards.
 
-ghost use Rattle.std.specs.Prelude.{◌≡◌, ◌<◌, ◌≤◌, ◌+◌, ◌*◌, length, slice_index, is_some, IfOk};
+ghost use Rattle.std.specs.Prelude.{◌≡◌, ◌<◌, ◌≤◌, ◌+◌, ◌*◌, [], ◌∷◌, ◌++◌, length, slice_index, true, false, is_some, IfOk, IfErr};
 ghost use Rattle.pc_diagram.specs.Fitting.{fitting};
 ghost use Rattle.pc_diagram.specs.Listing.{items, listing};
 ghost use Rattle.pc_diagram.specs.Paths.{words};
-ghost use Rattle.pc_domains.specs.Boards.{IsBoardOf, slots_before};
-ghost use Rattle.pc_domains.specs.Sides.{listed_of};
+ghost use Rattle.pc_diagram.specs.Choices.{is_chosen, without};
+ghost use Rattle.pc_diagram.specs.Diagram.{IsCanonical};
+ghost use Rattle.pc_diagram.specs.NodePaths.{AreChoicesOf, AreCostsOf};
+ghost use Rattle.pc_domains.specs.BoardFaults.{IsBoardFault};
+ghost use Rattle.pc_domains.specs.Boards.{IsBoardOf};
+ghost use Rattle.pc_domains.specs.Sides.{AreDistinctOf, listed_of};
+ghost use Rattle.pc_labels.specs.Labels.{AgreeBeside};
+ghost use Rattle.pc_domains.specs.Slots.{slots_before, slots_of};
 
+use crate::asked::kept_of;
+use crate::board_fault::BoardFault;
+use crate::ends::Ends;
 use crate::front_listing::{is_listed_by_fronts, listed_by_fronts};
 use crate::label_listing::{is_listed_by_labels, listed_by_labels};
 use pc_base::{NoMemory, Sequence};
-use pc_diagram::{Bounds, Choices, Costs, Diagram, Listed, Listing, Steps};
-use pc_labels::Labels;
-use pc_pareto::Fronts;
+use pc_diagram::{Bounds, Choices, Costs, Diagram, Listed, Listing, Side, Steps};
 use std::alloc::Global;
 use std::sync::ledger::Ledger;
-
-/// What is kept of the nodes of a diagram from one of its ends.
-#[derive(Debug, Drop)]
-pub enum Ends {
-    /// Of each node its cheapest path.
-    Least(Labels),
-    /// Of each node the front of the costs of its paths.
-    Pairs(Fronts),
-}
 
 /// Choices and bounds over a diagram, and what is kept from both of its ends with the choices: fronts where the second cost
 /// has a bound, and else labels.
@@ -36,6 +34,149 @@ pub struct Board {
 }
 
 impl Board {
+    /// The board of a diagram with these choices and bounds.
+    ///
+    /// # Errors
+    ///
+    /// The limit of the fronts, where the second cost has a bound, the heads first; else that no word fits; or want of memory.
+    pub fn new<L: Ledger>(
+        alloc: Global,
+        diagram: &Diagram,
+        costs: &Costs,
+        choices: &Choices,
+        bounds: &Bounds,
+        steps: &mut Steps<L>,
+    ) -> Result<Board, BoardFault>
+        requires costs { AreCostsOf diagram.now.domains costs.now }
+        requires choices { AreChoicesOf diagram.now.domains choices.now }
+        ensures board { IfOk result (IsBoardOf diagram.now costs.now) }
+        ensures choices { IfOk result (λ board. board.choices ≡ choices.now) }
+        ensures bounds { IfOk result (λ board. board.bounds ≡ bounds.now) }
+        ensures fault { IfErr result (IsBoardFault diagram.now costs.now choices.now bounds.now) }
+        ensures steps { steps.new ≤ steps.old + 2 * slots_before diagram.now (length diagram.now.domains) }
+    {
+        kept_of(diagram, choices);
+        let second = bounds.second;
+        let heads = Ends::of(alloc, Side::Heads, diagram, costs, choices, second, steps)?;
+        let tails = Ends::of(alloc, Side::Tails, diagram, costs, choices, second, steps)?;
+        if !tails.root_is_within(bounds) {
+            return Err(BoardFault::NoFit);
+        }
+        Ok(Board {
+            choices: choices.copy(alloc)?,
+            bounds: *bounds,
+            heads,
+            tails,
+        })
+    }
+
+    /// The board with one choice more, at the end, of a variable that isn't chosen.
+    ///
+    /// # Errors
+    ///
+    /// Those of the board made anew.
+    pub fn with_choice<L: Ledger>(
+        &self,
+        alloc: Global,
+        diagram: &Diagram,
+        costs: &Costs,
+        variable: u32,
+        value: u32,
+        steps: &mut Steps<L>,
+    ) -> Result<Board, BoardFault>
+        requires board { IsBoardOf diagram.now costs.now self.now }
+        requires variable { variable < length diagram.now.domains }
+        requires value { value < slice_index diagram.now.domains variable }
+        requires free { is_chosen self.now.choices variable ≡ false }
+        ensures board { IfOk result (IsBoardOf diagram.now costs.now) }
+        ensures choices { IfOk result (λ board. board.choices ≡ self.now.choices ++ record { variable = variable; value = value } ∷ []) }
+        ensures bounds { IfOk result (λ board. board.bounds ≡ self.now.bounds) }
+        ensures fault { IfErr result (IsBoardFault diagram.now costs.now (self.now.choices ++ record { variable = variable; value = value } ∷ []) self.now.bounds) }
+        ensures steps { steps.new ≤ steps.old + (slots_before diagram.now (length diagram.now.domains) + slots_of diagram.now variable) }
+    {
+        let choices = self.choices.with(alloc, variable, value)?;
+        self.again(alloc, diagram, costs, choices, variable, steps)
+    }
+
+    /// The board without the choice of a variable that is chosen.
+    ///
+    /// # Errors
+    ///
+    /// Those of the board made anew.
+    pub fn without_choice<L: Ledger>(
+        &self,
+        alloc: Global,
+        diagram: &Diagram,
+        costs: &Costs,
+        variable: u32,
+        steps: &mut Steps<L>,
+    ) -> Result<Board, BoardFault>
+        requires board { IsBoardOf diagram.now costs.now self.now }
+        requires variable { variable < length diagram.now.domains }
+        requires chosen { is_chosen self.now.choices variable ≡ true }
+        ensures board { IfOk result (IsBoardOf diagram.now costs.now) }
+        ensures choices { IfOk result (λ board. board.choices ≡ without self.now.choices variable) }
+        ensures bounds { IfOk result (λ board. board.bounds ≡ self.now.bounds) }
+        ensures fault { IfErr result (IsBoardFault diagram.now costs.now (without self.now.choices variable) self.now.bounds) }
+        ensures steps { steps.new ≤ steps.old + (slots_before diagram.now (length diagram.now.domains) + slots_of diagram.now variable) }
+    {
+        let choices = self.choices.without(alloc, variable)?;
+        self.again(alloc, diagram, costs, choices, variable, steps)
+    }
+
+    /// The board with choices that agree with its own at every variable other than one.
+    fn again<L: Ledger>(
+        &self,
+        alloc: Global,
+        diagram: &Diagram,
+        costs: &Costs,
+        choices: Choices,
+        variable: u32,
+        steps: &mut Steps<L>,
+    ) -> Result<Board, BoardFault>
+        requires board { IsBoardOf diagram.now costs.now self.now }
+        requires variable { variable < length diagram.now.domains }
+        requires choices { AreDistinctOf diagram.now.domains choices }
+        requires agree { AgreeBeside variable self.now.choices choices }
+        ensures board { IfOk result (IsBoardOf diagram.now costs.now) }
+        ensures choices { IfOk result (λ board. board.choices ≡ choices) }
+        ensures bounds { IfOk result (λ board. board.bounds ≡ self.now.bounds) }
+        ensures fault { IfErr result (IsBoardFault diagram.now costs.now choices self.now.bounds) }
+        ensures steps { steps.new ≤ steps.old + (slots_before diagram.now (length diagram.now.domains) + slots_of diagram.now variable) }
+    {
+        let bounds = self.bounds;
+        let second = bounds.second;
+        let heads = self.heads.again(
+            alloc,
+            Side::Heads,
+            diagram,
+            costs,
+            &choices,
+            second,
+            variable,
+            steps,
+        )?;
+        let tails = self.tails.again(
+            alloc,
+            Side::Tails,
+            diagram,
+            costs,
+            &choices,
+            second,
+            variable,
+            steps,
+        )?;
+        if !tails.root_is_within(&bounds) {
+            return Err(BoardFault::NoFit);
+        }
+        Ok(Board {
+            choices,
+            bounds,
+            heads,
+            tails,
+        })
+    }
+
     /// What is listed of a value, if it is listed: the cheapest word of the diagram that takes it, agrees with the choices and
     /// keeps the bounds, with its costs.
     ///

@@ -2,18 +2,16 @@
 
 ghost use Rattle.std.specs.Prelude.{◌≡◌, ◌<◌, ◌≤◌, ◌+◌, [], length, slice_index, slice_index_or, None, is_some, IfOk, IsSome};
 ghost use Rattle.pc_diagram.specs.declared.limits.TheConstants.{MOST_VARIABLES};
-ghost use Rattle.pc_diagram.specs.Bounds.{allows_pair};
 ghost use Rattle.pc_diagram.specs.NodePaths.{AreCostsOf};
 ghost use Rattle.pc_domains.specs.LabelWays.{is_allowed_way, word_of_label_way};
 ghost use Rattle.pc_domains.specs.Sides.{IsAsked, listed_of};
 ghost use Rattle.pc_labels.specs.Kept.{kept_at};
 ghost use Rattle.pc_labels.specs.Labels.{AreHeads, AreTails};
 
-use crate::asked::{allows_value, price_of};
-use crate::join::allows;
+use crate::asked::{allows_value, keeps, price_of};
 use crate::label_way::{LabelWay, least_label_way};
 use pc_base::NoMemory;
-use pc_diagram::{Bounds, Choices, CostPair, Costs, Diagram, Listed, Steps, Word};
+use pc_diagram::{Bounds, Choices, Costs, Diagram, Listed, Steps, Word};
 use pc_labels::Labels;
 use std::alloc::Global;
 use std::sync::ledger::Ledger;
@@ -104,13 +102,6 @@ fn is_allowed_way(bounds: &Bounds, way: &Option<LabelWay>) -> bool
         Some(way) => keeps(bounds, &way.ranked.pair),
         None => false,
     }
-}
-
-/// Whether costs keep the bounds that are set.
-fn keeps(bounds: &Bounds, pair: &CostPair) -> bool
-    ensures { result ≡ allows_pair bounds.now pair.now }
-{
-    allows(bounds.first, pair.first) && allows(bounds.second, pair.second)
 }
 
 /// The word of a way.

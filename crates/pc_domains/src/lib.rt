@@ -4,6 +4,8 @@
 
 mod asked;
 mod board;
+mod board_fault;
+mod ends;
 mod front_listing;
 mod front_way;
 mod join;
@@ -11,7 +13,9 @@ mod label_listing;
 mod label_way;
 pub mod laws;
 
-pub use board::{Board, Ends};
+pub use board::Board;
+pub use board_fault::BoardFault;
+pub use ends::Ends;
 pub use front_listing::{is_listed_by_fronts, listed_by_fronts};
 pub use front_way::{FrontWay, least_front_way};
 pub use join::{Join, least_join};

@@ -4,7 +4,7 @@ use Rattle.std.specs.List.{range_with_len}
 use Rattle.pc_diagram.specs.Fitting.{fitting}
 use Rattle.pc_diagram.specs.Listing.{items}
 use Rattle.pc_diagram.specs.Paths.{words}
-use Rattle.pc_domains.specs.Boards.{slots_before}
+use Rattle.pc_domains.specs.Slots.{slots_before}
 use Rattle.pc_domains.proofs.board.Board.listing.Given as goal
 
 abbrev pub invariant-loop-variable : goal.invariant-loop-variable
