@@ -9,6 +9,7 @@ pub mod DiagramFaults
 pub mod DiagramShape
 pub mod Edges
 pub mod Fitting
+pub mod Least
 pub mod Levels
 pub mod Listing
 pub mod NodePaths

@@ -67,7 +67,7 @@ unfound test (x ∷ items) h place item is = by (test x) refl h place is (unfoun
     by false e k (suc p) is rest = rest k p item is
 
 module _ (raw : RawDiagram) (canonical : IsCanonical raw) (costs : List (List CostPair)) (choices : List Choice) where
-  root_distance : (fronts : Fronts) → IsFrontsOf Tails raw costs choices fronts → distance_of fronts 0 ≡ length raw.domains
+  pub root_distance : (fronts : Fronts) → IsFrontsOf Tails raw costs choices fronts → distance_of fronts 0 ≡ length raw.domains
   root_distance fronts is =
       let many : length (stages_of fronts) ≡ length raw.domains + 1 = is.are.layers in
       let far : (length (stages_of fronts) - 1) - 0 ≡ length raw.domains = omega (arith, many) in

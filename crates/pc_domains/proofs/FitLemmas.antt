@@ -4,6 +4,7 @@ use Rattle.std.specs.Cmp.Lexicographic.{pointwise}
 use Rattle.std.specs.List.{list_any}
 use Rattle.std.proofs.lemmas.Bool.{both_ways}
 use Rattle.std.proofs.lemmas.List.Elements.{All-weaker}
+use Rattle.std.proofs.lemmas.List.Folds.{list_any_at}
 use Rattle.std.proofs.lemmas.Slice.Eq.{bytes_eq-Decides}
 use Rattle.pc_diagram.specs.declared.bounds.Bounds.{Bounds}
 use Rattle.pc_diagram.specs.declared.choice.Choice.{Choice}
@@ -23,6 +24,14 @@ use Rattle.pc_diagram.proofs.WordLemmas.{kept_words-is}
 use Rattle.pc_domains.specs.Ways.{Keeps, Kept}
 use Rattle.pc_domains.proofs.AgreeLemmas.{extends_agrees}
 use Rattle.pc_domains.proofs.WayLemmas.{AddsUp, IsDownward}
+
+-- a kept path that is allowed, and costs no more than this
+pub record Covering (no_more : CostPair → CostPair → Type 0) (allows : CostPair → Bool) (kept : ℕ → Option Kept) (pair : CostPair) : Type 0 where
+  pub place : ℕ
+  pub path : Kept
+  pub is : kept place ≡ Some path
+  pub no_dearer : no_more path.pair pair
+  pub allowed : allows path.pair ≡ true
 
 module _ (raw : RawDiagram) (costs : List (List CostPair)) (choices : List Choice) (bounds : Bounds) (distinct : IsTrue (are_distinct choices)) (choices_of : AreChoicesOf raw.domains choices) where
   abbrev fitting_word : List ℕ → Bool
@@ -66,6 +75,15 @@ module _ (raw : RawDiagram) (costs : List (List CostPair)) (choices : List Choic
     -- where the bounds allow a kept path of the root, its word fits
     pub root_fits : (place : ℕ) (k : Kept) → kept 0 place ≡ Some k → allows_pair bounds k.pair ≡ true → Contains (fitting costs (words raw) choices bounds) k.path
     root_fits place k is allowed = member k.path (fitting costs (words raw) choices bounds) (is_among place k is allowed)
+
+    -- a word that fits is covered by a kept path of the root that the bounds allow
+    pub covered : (word : List ℕ) → Contains (fitting costs (words raw) choices bounds) word → Covering no_more (allows_pair bounds) (kept 0) (cost_pair costs word)
+    covered word its =
+        let found : list_any (pointwise nat_eq word) (fitting costs (words raw) choices bounds) ≡ true = list_any_at (pointwise nat_eq word) (fitting costs (words raw) choices bounds) its.0 word its.1 (ap (pointwise nat_eq word) its.2 ∙ (bytes_eq-Decides word word).1 refl) in
+        let one = both (fitting_word word) (is_word raw.domains word) (sym (among word) ∙ found) in
+        let two = both (is_tail raw choices 0 0 word) (within costs word bounds) (sym (root_tail word one.1) ∙ one.0) in
+        let by = keeps.covers 0 (omega arith) word one.1 two.0 in
+        record { place = by.place; path = by.path; is = by.is; no_dearer = by.no_dearer; allowed = downward by.path.pair (cost_pair costs word) by.no_dearer two.1 }
 
     no_word : ((place : ℕ) (k : Kept) → kept 0 place ≡ Some k → allows_pair bounds k.pair ≡ false) → (word : List ℕ) → is_word raw.domains word ≡ true → fitting_word word ≡ false
     no_word none word over = by (fitting_word word) refl

@@ -34,7 +34,7 @@ use Rattle.pc_domains.proofs.WayLemmas.{way_costs}
 
 -- an item at a place of a list
 
-at_place : (items : List FrontItem) (place : ℕ) → place < length items → slice_get items place ≡ Some (slice_index_or items place no_item)
+pub at_place : (items : List FrontItem) (place : ℕ) → place < length items → slice_get items place ≡ Some (slice_index_or items place no_item)
 at_place [] place lt = absurd (omega arith)
 at_place (item ∷ items) zero lt = refl
 at_place (item ∷ items) (suc place) lt = at_place items place (omega arith)
@@ -49,11 +49,11 @@ is_at (first ∷ items) zero item e = record { inside = omega arith; is = cc }
 is_at (first ∷ items) (suc place) item e = let its = is_at items place item e in record { inside = omega (arith, its.inside); is = its.is }
 
 -- a kept path is that of the item at its place
-record IsKeptAt (side : Side) (stages : List (List (List FrontItem))) (distance node place : ℕ) (k : Kept) : Type 0 where
-  inside : place < length (items_at stages distance node)
-  is : kept_item side stages distance (slice_index_or (items_at stages distance node) place no_item) ≡ k
+pub record IsKeptAt (side : Side) (stages : List (List (List FrontItem))) (distance node place : ℕ) (k : Kept) : Type 0 where
+  pub inside : place < length (items_at stages distance node)
+  pub is : kept_item side stages distance (slice_index_or (items_at stages distance node) place no_item) ≡ k
 
-kept_at : (side : Side) (stages : List (List (List FrontItem))) (distance node place : ℕ) (k : Kept) → kept_by_fronts side stages distance node place ≡ Some k → IsKeptAt side stages distance node place k
+pub kept_at : (side : Side) (stages : List (List (List FrontItem))) (distance node place : ℕ) (k : Kept) → kept_by_fronts side stages distance node place ≡ Some k → IsKeptAt side stages distance node place k
 kept_at side stages distance node place k e = by (slice_get (items_at stages distance node) place) refl e
   where
     by : (o : Option FrontItem) → slice_get (items_at stages distance node) place ≡ o → option_map (kept_item side stages distance) o ≡ Some k → IsKeptAt side stages distance node place k

@@ -1,5 +1,4 @@
 pub mod BoardLemmas
-pub mod ChangeLemmas
 pub mod EndLemmas
 pub mod MadeLemmas
 pub mod SlotLemmas
@@ -15,9 +14,13 @@ pub mod JoinableLemmas
 pub mod LabelListedLemmas
 pub mod LabelPathLemmas
 pub mod LabelWayLemmas
+pub mod LeastEnds
+pub mod LeastItemLemmas
+pub mod LeastLemmas
 pub mod ListedLemmas
 pub mod OrderLemmas
 pub mod PartLemmas
 pub mod RangeLemmas
+pub mod SwapLemmas
 pub mod ThroughLemmas
 pub mod WayLemmas

@@ -4,8 +4,10 @@ use Rattle.std.specs.Prelude.{int_le}
 use Rattle.std.proofs.lemmas.Int.{ints}
 use Rattle.pc_diagram.specs.declared.bounds.Bounds.{Bounds}
 use Rattle.pc_diagram.specs.declared.costs.CostPair.{CostPair}
+use Rattle.pc_diagram.specs.declared.which.Which.{Which}
+use Rattle.pc_diagram.specs.declared.which.Which.TheVariants.{First, Second}
 use Rattle.pc_diagram.specs.Bounds.{allows, allows_pair}
-use Rattle.pc_diagram.specs.Costs.{is_cheaper}
+use Rattle.pc_diagram.specs.Costs.{is_cheaper, part}
 use Rattle.pc_diagram.specs.Weight.{plus_pair}
 use Rattle.pc_diagram.proofs.ShapeLemmas.{both, together}
 use Rattle.pc_domains.specs.Orders.{IsAtMost, IsNoDearer}
@@ -61,7 +63,7 @@ at_most_downward bounds a b h k =
     let one = both_at_most a b h in
     together (allows bounds.first a.first) (allows bounds.second a.second) (allows_less bounds.first a.first b.first one.first two.0) (allows_less bounds.second a.second b.second one.second two.1)
 
-no_dearer_first : (a b : CostPair) → is_cheaper b a ≡ false → a.first ≤ℤ b.first
+pub no_dearer_first : (a b : CostPair) → is_cheaper b a ≡ false → a.first ≤ℤ b.first
 no_dearer_first a b h = grind (arith, ints)
 
 -- a bound on the first cost alone allows what is no dearer
@@ -69,3 +71,8 @@ pub no_dearer_downward : (bounds : Bounds) → bounds.second ≡ None → IsDown
 no_dearer_downward bounds alone a b h k =
     let two = both (allows bounds.first b.first) (allows bounds.second b.second) k in
     together (allows bounds.first a.first) (allows bounds.second a.second) (allows_less bounds.first a.first b.first (no_dearer_first a b h) two.0) (ap (λ limit. allows limit a.second) alone)
+
+-- what is at most as much is at most as much by either cost
+pub at_most_part : (which : Which) (a b : CostPair) → IsAtMost a b → part which a ≤ℤ part which b
+at_most_part First a b h = (both_at_most a b h).first
+at_most_part Second a b h = (both_at_most a b h).second

@@ -7,6 +7,7 @@ pub mod Joins
 pub mod LabelLimits
 pub mod LabelPaths
 pub mod LabelWays
+pub mod Least
 pub mod Orders
 pub mod Sides
 pub mod Slots

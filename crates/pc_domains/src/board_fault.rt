@@ -10,7 +10,7 @@ use thiserror::Error;
 pub enum BoardFault {
     /// A bound that asks for fronts is set, and the fronts of a side have more than 1,048,576 pairs; the layer is the first, from
     /// the side's end, at which they have. The heads come first.
-    #[error("label limit")]
+    #[error("label-limit {side} {layer}")]
     LabelLimit { side: Side, layer: u32 },
 
     /// No word of the diagram agrees with the choices and keeps the bounds.

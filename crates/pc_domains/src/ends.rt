@@ -133,7 +133,7 @@ fn some_within(items: &[FrontItem], bounds: &Bounds) -> bool
 }
 
 /// Whether the costs of an item are within the bounds.
-fn is_within(item: &FrontItem, bounds: &Bounds) -> bool
+pub(crate) fn is_within(item: &FrontItem, bounds: &Bounds) -> bool
     ensures { result ≡ allows_pair bounds.now (pair_of item.now) }
 {
     let pair = CostPair {

@@ -1,5 +1,6 @@
-//! Boards: what a shopper's choices and bounds leave of each variable's values. `Board::listing` is exactly the listing over
-//! the diagram's words, joined from what is kept of the paths from both ends.
+//! Boards: what a shopper's choices and bounds leave of each variable's values. `Board::new` makes one where some word fits,
+//! `with_choice` and `without_choice` bring it forward, and `Board::listing` is exactly the listing over the diagram's words,
+//! joined from what is kept of the paths from both ends. `least` is the least of a cost over the words that fit.
 #![tactic(auto)]
 
 mod asked;
@@ -12,12 +13,10 @@ mod join;
 mod label_listing;
 mod label_way;
 pub mod laws;
+mod least_cost;
+mod swapped;
 
 pub use board::Board;
 pub use board_fault::BoardFault;
 pub use ends::Ends;
-pub use front_listing::{is_listed_by_fronts, listed_by_fronts};
-pub use front_way::{FrontWay, least_front_way};
-pub use join::{Join, least_join};
-pub use label_listing::{is_listed_by_labels, listed_by_labels};
-pub use label_way::{LabelWay, least_label_way};
+pub use least_cost::least;

@@ -4,10 +4,9 @@ use Rattle.std.proofs.lemmas.List.Elements.{All-filter}
 use Rattle.pc_diagram.specs.declared.choice.Choice.{Choice}
 use Rattle.pc_diagram.specs.Choices.{without}
 use Rattle.pc_diagram.specs.NodePaths.{IsChoiceOf}
-use Rattle.pc_diagram.proofs.ChoiceLemmas.{are_distinct-filter}
+use Rattle.pc_diagram.proofs.ChoiceLemmas.{are_distinct-filter, value_of-without}
 use Rattle.pc_labels.specs.Labels.{AgreeBeside}
 use Rattle.pc_domains.specs.Sides.{AreDistinctOf}
-use Rattle.pc_domains.proofs.ChangeLemmas.{agree_without}
 use Rattle.pc_domains.proofs.board.Board.without_choice.Goals as goal
 
 pub again-requires-clause-choices : goal.again-requires-clause-choices
@@ -23,4 +22,4 @@ again-requires-clause-choices g c =
 
 pub again-requires-clause-agree : goal.again-requires-clause-agree
 again-requires-clause-agree g c =
-    subst (λ l. AgreeBeside c.args.variable c.args.self.now.choices l) (sym c.in_ok-choices.ensures) (agree_without c.args.self.now.choices c.args.variable)
+    subst (λ l. AgreeBeside c.args.variable c.args.self.now.choices l) (sym c.in_ok-choices.ensures) (λ other differ. sym (value_of-without c.args.self.now.choices c.args.variable other differ))
