@@ -4,7 +4,7 @@ use Rattle.pc_file.specs.declared.sizes.TheConstants.{MOST_WORDS}
 use Rattle.pc_file.specs.Limits.{Contents}
 use Rattle.pc_file.specs.Products.{words_of}
 use Rattle.pc_rules.specs.declared.kind.Kind.{Kind}
-use Rattle.pc_text.specs.Crowded.{crowded_line, is_crowded}
+use Rattle.pc_text.specs.TooManyWords.{has_too_many_words, too_many_words_at}
 use Rattle.pc_text.specs.FirstFault.{first_fault, given_by}
 use Rattle.pc_text.specs.Given.{contents_given}
 use Rattle.pc_conn.specs.declared.body.Body.{Body}
@@ -12,7 +12,7 @@ use Rattle.pc_conn.specs.declared.body.Body.TheVariants.{File, Fault, NotBuilt}
 
 -- a sound text whose values are too many for the plain list, or not
 abbrev pub sound_body : Bool → Option ℕ → Contents → Body
-sound_body crowded line file = if crowded then NotBuilt (unwrap_or line 0) else File file
+sound_body too_many line file = if too_many then NotBuilt (unwrap_or line 0) else File file
 
 abbrev pub body_by : Option (ℕ × Kind) → Body → Body
 body_by (Some fault) sound = Fault fault.0 fault.1
@@ -20,7 +20,7 @@ body_by None sound = sound
 
 -- the file that a text spells, or its first fault
 unfoldable pub body_of : List ℕ → Body
-body_of text = body_by (first_fault text) (sound_body (is_crowded (given_by text)) (crowded_line text) (contents_given (given_by text)))
+body_of text = body_by (first_fault text) (sound_body (has_too_many_words (given_by text)) (too_many_words_at text) (contents_given (given_by text)))
 
 -- a file has few enough words for the plain list
 abbrev pub HasFewWords : Body → Type 0

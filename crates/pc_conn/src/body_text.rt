@@ -2,14 +2,14 @@
 
 ghost use Rattle.std.specs.Prelude.{◌≡◌, IfOk, None, true};
 ghost use Rattle.pc_conn.specs.BodyText.{HasFewWords, body_of, sound_body};
-ghost use Rattle.pc_text.specs.Crowded.{crowded_line, is_crowded};
+ghost use Rattle.pc_text.specs.TooManyWords.{has_too_many_words, too_many_words_at};
 ghost use Rattle.pc_text.specs.FirstFault.{first_fault, given_by};
 ghost use Rattle.pc_text.specs.Given.{contents_given};
 
 use crate::body::Body;
 use pc_base::NoMemory;
-use pc_file::{File, SharedFile, has_few_words};
-use pc_text::{TextFault, crowded_line, read_file};
+use pc_file::{File, SharedFile, has_too_many_words};
+use pc_text::{TextFault, read_file, too_many_words_at};
 use std::alloc::Global;
 
 /// The file that a text spells, or its first fault.
@@ -28,13 +28,13 @@ pub fn body_of(alloc: Global, text: &[u8]) -> Result<Body, NoMemory>
 fn sound_body(alloc: Global, file: File, text: &[u8]) -> Result<Body, NoMemory>
     requires sound { first_fault text.now ≡ None }
     requires spelled { file ≡ contents_given (given_by text.now) }
-    ensures exact { IfOk result (λ body. body ≡ sound_body (is_crowded (given_by text.now)) (crowded_line text.now) file) }
+    ensures exact { IfOk result (λ body. body ≡ sound_body (has_too_many_words (given_by text.now)) (too_many_words_at text.now) file) }
     ensures few { IfOk result HasFewWords }
 {
-    if has_few_words(&file) {
+    if !has_too_many_words(&file) {
         return Ok(Body::File(SharedFile::new(alloc, file)?));
     }
-    match crowded_line(alloc, text) {
+    match too_many_words_at(alloc, text) {
         Ok(line) => Ok(Body::NotBuilt {
             line: line.unwrap_or(0),
         }),

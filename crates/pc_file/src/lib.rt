@@ -30,11 +30,10 @@ pub use printed_lines::{
     cost_line_size, end_line_size, header_line_size, rule_line_size, value_line_size,
     variable_line_size, with_line,
 };
-pub use products::{PlainFault, has_few_words, plain_products};
+pub use products::{PlainFault, has_too_many_words, plain_products};
 pub use rule::Rule;
 pub use shared_file::SharedFile;
 pub use sizes::{
-    MOST_COST, MOST_COSTS, MOST_MEMBERS, MOST_OPEN, MOST_RULES, MOST_WORDS, PRINTED_BYTES,
-    PRINTED_LINE_BYTES,
+    LINE_BYTES, MOST_COST, MOST_COSTS, MOST_MEMBERS, MOST_OPEN, MOST_RULES, MOST_WORDS, TEXT_BYTES,
 };
 pub use variable::{Value, Variable};

@@ -7,7 +7,7 @@ ghost use Rattle.pc_file.specs.PrintedSize.{counted, with_line, with_lines, IsPr
 
 use crate::printed_size::rule_size;
 use crate::rule::Rule;
-use crate::sizes::{PRINTED_BYTES, PRINTED_LINE_BYTES};
+use crate::sizes::{LINE_BYTES, TEXT_BYTES};
 use crate::variable::{Value, Variable};
 use pc_base::signed_width;
 use pc_names::Name;
@@ -70,11 +70,11 @@ pub fn end_line_size() -> usize
 pub fn with_line(bytes: usize, line: usize) -> Option<usize>
     ensures { result ≡ with_line bytes line }
 {
-    if line > PRINTED_LINE_BYTES {
+    if line > LINE_BYTES {
         return None;
     }
     let bytes = bytes.saturating_add(line + 1);
-    (bytes <= PRINTED_BYTES).then_some(bytes)
+    (bytes <= TEXT_BYTES).then_some(bytes)
 }
 
 fn with_costs(bytes: usize, costs: &[Name]) -> Option<usize>

@@ -40,7 +40,7 @@ pub fn plain_products(alloc: Global, file: &File) -> Result<Sequence<Word>, Plai
     ensures few { IfOk result (λ _. words_of file.now ≤ MOST_WORDS) }
     ensures too_many { IsErrOf result PlainFault.TooMany → MOST_WORDS < words_of file.now }
 {
-    if !has_few_words(file) {
+    if has_too_many_words(file) {
         return Err(PlainFault::TooMany);
     }
     let mut word = Vec::new(alloc);
@@ -49,11 +49,11 @@ pub fn plain_products(alloc: Global, file: &File) -> Result<Sequence<Word>, Plai
     Ok(words)
 }
 
-/// Whether the numbers of values multiply to at most `MOST_WORDS`.
-pub fn has_few_words(file: &File) -> bool
-    ensures { IsTrue result ↔ (words_of file.now ≤ MOST_WORDS) }
+/// Whether the numbers of values multiply to more than `MOST_WORDS`.
+pub fn has_too_many_words(file: &File) -> bool
+    ensures { IsTrue result ↔ (MOST_WORDS < words_of file.now) }
 {
-    word_count(file.variables()).is_some()
+    word_count(file.variables()).is_none()
 }
 
 /// How many words there are over these variables, where there are at most `MOST_WORDS`.

@@ -1,4 +1,5 @@
-//! The limits of a file and of its printed form. Those of variables and values are the limits of diagrams.
+//! The limits of a file and of its text, which its printed form keeps too. Those of variables and values are the limits
+//! of diagrams.
 
 /// The most costs.
 pub const MOST_COSTS: usize = 2;
@@ -15,11 +16,11 @@ pub const MOST_MEMBERS: usize = 64;
 /// The most parentheses that are open at once in a printed rule.
 pub const MOST_OPEN: u32 = 64;
 
-/// The most bytes of a line of the printed form, without its line feed.
-pub const PRINTED_LINE_BYTES: usize = 65_536;
+/// The most bytes of a line of a product text, without its line feed.
+pub const LINE_BYTES: usize = 65_536;
 
-/// The most bytes of a printed form, with its line feeds.
-pub const PRINTED_BYTES: usize = 1_048_576;
+/// The most bytes of a product text, with its line feeds.
+pub const TEXT_BYTES: usize = 1_048_576;
 
 /// The most words that a plain list goes through.
 pub const MOST_WORDS: usize = 65_536;

@@ -6,7 +6,7 @@ use Rattle.pc_io.specs.declared.line_fault.LineFault.{LineFault}
 use Rattle.pc_io.specs.declared.line_fault.LineFault.TheVariants.{LineTooLong, TotalTooLong}
 use Rattle.pc_io.specs.Held.{Held, held}
 use Rattle.pc_base.specs.Lines.{HasNoFeed, first_line, from_feed, is_long, is_over}
-use Rattle.pc_io.specs.NextLine.{Answer, answer_to, taken}
+use Rattle.pc_io.specs.NextLine.{LineAnswer, answer_to, taken}
 use Rattle.pc_base.proofs.LineCuts.{first_line-at_feed, first_line-whole, from_feed-at_feed, from_feed-none, length-first_line-append, length-first_line-take}
 
 -- the tests of the limits, by numbers
@@ -80,7 +80,7 @@ answer-past line_limit left b fault past long over =
 
 -- with nothing more to come
 
-pub called_now : (line_limit left : ℕ) (b : List ℕ) (answer : Answer) → answer ≡ answer_to line_limit left (b ++ []) → answer ≡ answer_to line_limit left b
+pub called_now : (line_limit left : ℕ) (b : List ℕ) (answer : LineAnswer) → answer ≡ answer_to line_limit left (b ++ []) → answer ≡ answer_to line_limit left b
 called_now line_limit left b answer is = is ∙ ap (answer_to line_limit left) (append-nil b)
 
 -- the same of what is held, with more bytes to come

@@ -5,11 +5,11 @@ use Rattle.pc_io.specs.declared.line_fault.LineFault.TheVariants.{ReadFault, Lin
 use Rattle.pc_base.specs.Lines.{first_line, is_long, is_over}
 
 -- a line, the end, or a fault
-abbrev pub Answer : Type 0
-Answer = Result (Option (List ℕ)) LineFault
+abbrev pub LineAnswer : Type 0
+LineAnswer = Result (Option (List ℕ)) LineFault
 
 -- what the bytes still to be cut call for, with so many left to give: a fault of a limit, the first line, or the end
-unfoldable pub answer_to : ℕ → ℕ → List ℕ → Answer
+unfoldable pub answer_to : ℕ → ℕ → List ℕ → LineAnswer
 answer_to line_limit left b =
     if is_long line_limit left b then Err LineTooLong
     else (if is_over left b then Err TotalTooLong
@@ -35,18 +35,18 @@ lasting TotalTooLong = Some TotalTooLong
 lasting NoMemory = None
 
 -- the fault that an answer leaves
-abbrev pub fault_left : Answer → Option LineFault
+abbrev pub fault_left : LineAnswer → Option LineFault
 fault_left (Ok line) = None
 fault_left (Err fault) = lasting fault
 
 -- the bytes that an answer takes: a line with its line feed, or alone at the end
-abbrev pub taken : Answer → Bool → List ℕ
+abbrev pub taken : LineAnswer → Bool → List ℕ
 taken (Ok (Some line)) ended = if ended then line else line ++ 10 ∷ []
 taken (Ok None) ended = []
 taken (Err fault) ended = []
 
 -- P of the line, if there is one
-abbrev pub IfLine : Answer → (List ℕ → Type 0) → Type 0
+abbrev pub IfLine : LineAnswer → (List ℕ → Type 0) → Type 0
 IfLine (Ok (Some line)) P = P line
 IfLine (Ok None) P = ⊤
 IfLine (Err fault) P = ⊤

@@ -7,14 +7,6 @@ pub mod ListPlaces
 pub mod OutcomeLemmas
 pub mod PhraseFolds
 pub mod PhraseLemmas
-pub mod PrintedDepth
-pub mod PrintedFeeds
-pub mod PrintedForms
-pub mod PrintedNames
-pub mod PrintedOnce
-pub mod PrintedRuleText
-pub mod PrintedRules
-pub mod PrintedTokens
 pub mod Positions
 pub mod Readers
 pub mod RuleFolds

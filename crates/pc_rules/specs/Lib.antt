@@ -1,7 +1,6 @@
 pub mod Counts
 pub mod Grammar
 pub mod KindWord
-pub mod Nameable
 pub mod Naming
 pub mod Outcome
 pub mod Reading

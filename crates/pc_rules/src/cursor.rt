@@ -5,7 +5,7 @@ ghost use Rattle.pc_rules.specs.Outcome.{Reads};
 ghost use Rattle.pc_rules.specs.Words as spec;
 
 use crate::fault::{RuleFault, refused};
-use crate::token::{Sign, Token, Word};
+use crate::token::{Lexeme, Sign, Token};
 use pc_file::is_reserved;
 use pc_names::same_word;
 use std::marker::Model;
@@ -113,17 +113,17 @@ impl<'a> Cursor<'a> {
 
     /// Reads any word.
     #[tactic(auto, unfolding(crate::specs::Words::word))]
-    pub fn word(&mut self) -> Result<Word<'a>, RuleFault>
+    pub fn word(&mut self) -> Result<Lexeme<'a>, RuleFault>
         ensures { Reads (spec.word self.old) result self.new }
     {
         match self.next() {
-            Some(Token::Word(word)) => Ok(Word::new(word.as_bytes())),
+            Some(Token::Word(word)) => Ok(Lexeme::new(word.as_bytes())),
             _ => Err(refused()),
         }
     }
 
     /// The next word, which is then read; `None` at a sign and at the end.
-    pub fn next_word(&mut self) -> Option<Word<'a>>
+    pub fn next_word(&mut self) -> Option<Lexeme<'a>>
         ensures some { IfSome result (λ word. self.old ≡ Token.Word word ∷ self.new) }
         ensures none { IfNone result (spec.words_at self.old ≡ ([], self.old)) }
         ensures kept { IfNone result (self.new ≡ self.old) }
@@ -131,7 +131,7 @@ impl<'a> Cursor<'a> {
         match self.tokens.get(self.place) {
             Some(Token::Word(word)) => {
                 self.place += 1;
-                Some(Word::new(word.as_bytes()))
+                Some(Lexeme::new(word.as_bytes()))
             }
             _ => None,
         }
@@ -139,7 +139,7 @@ impl<'a> Cursor<'a> {
 
     /// Reads a word that may name a variable.
     #[tactic(auto, unfolding(crate::specs::Words::variable))]
-    pub fn variable(&mut self) -> Result<Word<'a>, RuleFault>
+    pub fn variable(&mut self) -> Result<Lexeme<'a>, RuleFault>
         ensures { Reads (spec.variable self.old) result self.new }
     {
         let word = self.word()?;

@@ -9,7 +9,7 @@ use crate::cursor::Cursor;
 use crate::fault::{RuleFault, refused};
 use crate::lists::{rows, variables, words};
 use crate::phrase::Phrase;
-use crate::token::{Sign, Word};
+use crate::token::{Lexeme, Sign};
 use pc_base::Sequence;
 use std::alloc::Global;
 
@@ -18,7 +18,7 @@ use std::alloc::Global;
 fn one_of<'a>(
     alloc: Global,
     cursor: &mut Cursor<'a>,
-    variable: Word<'a>,
+    variable: Lexeme<'a>,
 ) -> Result<Phrase<'a>, RuleFault>
     ensures { Reads (spec.one_of variable.entry cursor.old) result cursor.new }
 {
@@ -36,7 +36,7 @@ fn one_of<'a>(
 pub fn comparison<'a>(
     alloc: Global,
     cursor: &mut Cursor<'a>,
-    variable: Word<'a>,
+    variable: Lexeme<'a>,
 ) -> Result<Phrase<'a>, RuleFault>
     ensures { Reads (spec.comparison variable.entry cursor.old) result cursor.new }
 {
@@ -65,7 +65,7 @@ pub fn same<'a>(cursor: &mut Cursor<'a>) -> Result<Phrase<'a>, RuleFault>
 }
 
 /// Whether each row has as many words as the table has variables.
-fn are_as_long(variables: &[Word<'_>], rows: &[Sequence<Word<'_>>]) -> bool
+fn are_as_long(variables: &[Lexeme<'_>], rows: &[Sequence<Lexeme<'_>>]) -> bool
     ensures { result ≡ spec.are_as_long variables.now rows.now }
 {
     let count = variables.len();

@@ -10,7 +10,7 @@ use crate::cursor::Cursor;
 use crate::fault::{RuleFault, refused};
 use crate::forms::{comparison, same, table};
 use crate::phrase::{Chain, Phrase};
-use crate::token::{Sign, Token, Word};
+use crate::token::{Lexeme, Sign, Token};
 use pc_file::{MOST_OPEN, is_reserved};
 use pc_names::same_word;
 use sqlite_items::{Boxed, Items};
@@ -183,7 +183,7 @@ fn named<'a>(
     alloc: Global,
     cursor: &mut Cursor<'a>,
     depth: usize,
-    name: Word<'a>,
+    name: Lexeme<'a>,
 ) -> Result<Phrase<'a>, RuleFault>
     ensures { Reads (spec.named (spec.rule_at depth) name.entry cursor.old) result cursor.new }
 {

@@ -16,9 +16,7 @@ mod naming;
 mod phrase;
 mod rule_text;
 mod token;
-mod writer;
 
 pub use fault::RuleFault;
 pub use kind::Kind;
 pub use rule_text::read_rule;
-pub use writer::push_rule;

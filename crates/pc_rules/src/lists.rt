@@ -6,12 +6,12 @@ ghost use Rattle.pc_rules.specs.Words as spec;
 
 use crate::cursor::Cursor;
 use crate::fault::{RuleFault, refused};
-use crate::token::{Sign, Word};
+use crate::token::{Lexeme, Sign};
 use pc_base::{NoMemory, Sequence};
 use std::alloc::Global;
 
 /// One or more words, with commas between.
-pub fn words<'a>(alloc: Global, cursor: &mut Cursor<'a>) -> Result<Sequence<Word<'a>>, RuleFault>
+pub fn words<'a>(alloc: Global, cursor: &mut Cursor<'a>) -> Result<Sequence<Lexeme<'a>>, RuleFault>
     ensures { Reads (spec.listed spec.word cursor.old) result cursor.new }
 {
     let mut found = Sequence::new(alloc);
@@ -29,7 +29,7 @@ pub fn words<'a>(alloc: Global, cursor: &mut Cursor<'a>) -> Result<Sequence<Word
 pub fn variables<'a>(
     alloc: Global,
     cursor: &mut Cursor<'a>,
-) -> Result<Sequence<Word<'a>>, RuleFault>
+) -> Result<Sequence<Lexeme<'a>>, RuleFault>
     ensures { Reads (spec.listed spec.variable cursor.old) result cursor.new }
 {
     let mut found = Sequence::new(alloc);
@@ -44,7 +44,7 @@ pub fn variables<'a>(
 }
 
 /// The words up to the first sign.
-fn words_at<'a>(alloc: Global, cursor: &mut Cursor<'a>) -> Result<Sequence<Word<'a>>, NoMemory>
+fn words_at<'a>(alloc: Global, cursor: &mut Cursor<'a>) -> Result<Sequence<Lexeme<'a>>, NoMemory>
     ensures { IfOk result (λ found. (found, cursor.new) ≡ spec.words_at cursor.old) }
 {
     let mut found = Sequence::new(alloc);
@@ -56,7 +56,7 @@ fn words_at<'a>(alloc: Global, cursor: &mut Cursor<'a>) -> Result<Sequence<Word<
 
 /// One or more words with nothing between.
 #[tactic(auto, unfolding(crate::specs::Words::row))]
-fn row<'a>(alloc: Global, cursor: &mut Cursor<'a>) -> Result<Sequence<Word<'a>>, RuleFault>
+fn row<'a>(alloc: Global, cursor: &mut Cursor<'a>) -> Result<Sequence<Lexeme<'a>>, RuleFault>
     ensures { Reads (spec.row cursor.old) result cursor.new }
 {
     let found = words_at(alloc, cursor)?;
@@ -70,7 +70,7 @@ fn row<'a>(alloc: Global, cursor: &mut Cursor<'a>) -> Result<Sequence<Word<'a>>,
 pub fn rows<'a>(
     alloc: Global,
     cursor: &mut Cursor<'a>,
-) -> Result<Sequence<Sequence<Word<'a>>>, RuleFault>
+) -> Result<Sequence<Sequence<Lexeme<'a>>>, RuleFault>
     ensures { Reads (spec.listed spec.row cursor.old) result cursor.new }
 {
     let mut found = Sequence::new(alloc);

@@ -8,7 +8,7 @@ use crate::count::count_of;
 use crate::fault::RuleFault;
 use crate::kind::Kind;
 use crate::phrase::Phrase;
-use crate::token::Word;
+use crate::token::Lexeme;
 use pc_base::Sequence;
 use pc_file::{Catalogue, Rule};
 use pc_names::Name;
@@ -32,7 +32,7 @@ fn position_or_unknown(found: Option<usize>) -> Result<u32, RuleFault>
 
 /// Where the variable stands that a word names.
 #[tactic(auto, unfolding(crate::specs::Naming::variable_at))]
-fn variable_at(names: &Catalogue, word: &Word<'_>) -> Result<u32, RuleFault>
+fn variable_at(names: &Catalogue, word: &Lexeme<'_>) -> Result<u32, RuleFault>
     ensures { Gives (λ position. position) result (spec.variable_at names.now word.now) }
 {
     match Name::read(word.as_bytes()) {
@@ -43,7 +43,7 @@ fn variable_at(names: &Catalogue, word: &Word<'_>) -> Result<u32, RuleFault>
 
 /// Where the value of a variable stands that a word names.
 #[tactic(auto, unfolding(crate::specs::Naming::value_at))]
-fn value_at(names: &Catalogue, variable: u32, word: &Word<'_>) -> Result<u32, RuleFault>
+fn value_at(names: &Catalogue, variable: u32, word: &Lexeme<'_>) -> Result<u32, RuleFault>
     ensures { Gives (λ position. position) result (spec.value_at names.now variable word.now) }
 {
     match Name::read(word.as_bytes()) {
@@ -56,7 +56,7 @@ fn value_at(names: &Catalogue, variable: u32, word: &Word<'_>) -> Result<u32, Ru
 fn variables_at(
     alloc: Global,
     names: &Catalogue,
-    words: &[Word<'_>],
+    words: &[Lexeme<'_>],
 ) -> Result<Sequence<u32>, RuleFault>
     ensures { Gives (λ positions. positions) result (spec.variables_at names.now words.now) }
 {
@@ -72,7 +72,7 @@ fn values_at(
     alloc: Global,
     names: &Catalogue,
     variable: u32,
-    words: &[Word<'_>],
+    words: &[Lexeme<'_>],
 ) -> Result<Sequence<u32>, RuleFault>
     ensures { Gives (λ positions. positions) result (spec.values_at names.now variable words.now) }
 {
@@ -89,7 +89,7 @@ fn row_at(
     alloc: Global,
     names: &Catalogue,
     variables: &[u32],
-    words: &[Word<'_>],
+    words: &[Lexeme<'_>],
 ) -> Result<Sequence<u32>, RuleFault>
     ensures { Gives (λ positions. positions) result (spec.row_at names.now variables.now words.now) }
 {
@@ -105,7 +105,7 @@ fn rows_at(
     alloc: Global,
     names: &Catalogue,
     variables: &[u32],
-    rows: &[Sequence<Word<'_>>],
+    rows: &[Sequence<Lexeme<'_>>],
 ) -> Result<Sequence<Sequence<u32>>, RuleFault>
     ensures { Gives (λ rows. rows) result (spec.rows_at names.now variables.now rows.now) }
 {

@@ -1,6 +1,6 @@
 //! Rules as they are written, before their names are looked up.
 
-use crate::token::Word;
+use crate::token::Lexeme;
 use pc_base::Sequence;
 use sqlite_items::{Boxed, Items};
 
@@ -9,18 +9,18 @@ use sqlite_items::{Boxed, Items};
 pub enum Phrase<'a> {
     /// `v=a`
     Is {
-        variable: Word<'a>,
-        value: Word<'a>,
+        variable: Lexeme<'a>,
+        value: Lexeme<'a>,
     },
     /// `v!=a`
     IsNot {
-        variable: Word<'a>,
-        value: Word<'a>,
+        variable: Lexeme<'a>,
+        value: Lexeme<'a>,
     },
     /// `v in {a, b}`
     OneOf {
-        variable: Word<'a>,
-        values: Sequence<Word<'a>>,
+        variable: Lexeme<'a>,
+        values: Sequence<Lexeme<'a>>,
     },
     /// `not r`
     Not(Boxed<Phrase<'a>>),
@@ -31,16 +31,16 @@ pub enum Phrase<'a> {
     /// `r => s`
     Implies(Boxed<Phrase<'a>>, Boxed<Phrase<'a>>),
     /// `same(v, w)`
-    Same(Word<'a>, Word<'a>),
+    Same(Lexeme<'a>, Lexeme<'a>),
     /// `atmost k (r, s)`
     AtMost {
-        most: Word<'a>,
+        most: Lexeme<'a>,
         members: Items<Phrase<'a>>,
     },
     /// `table (v, w) {a b, c d}`
     Table {
-        variables: Sequence<Word<'a>>,
-        rows: Sequence<Sequence<Word<'a>>>,
+        variables: Sequence<Lexeme<'a>>,
+        rows: Sequence<Sequence<Lexeme<'a>>>,
     },
 }
 

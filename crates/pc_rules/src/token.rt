@@ -36,11 +36,11 @@ pub enum Sign {
 
 /// A maximal run of bytes from a to z, 0 to 9 and `_`, where it stands in the text.
 #[derive(Debug, Drop)]
-pub struct Word<'a> {
+pub struct Lexeme<'a> {
     bytes: &'a [u8],
 }
 
-impl<'a> Model for Word<'a> {
+impl<'a> Model for Lexeme<'a> {
     ghost use Rattle.std.specs.Prelude.{List, ℕ};
     ghost use Rattle.std.specs.Coded.{coded_list, coded_ℕ};
 
@@ -51,11 +51,11 @@ impl<'a> Model for Word<'a> {
     ghost view = { λ w. w.bytes.now };
 }
 
-impl<'a> Word<'a> {
-    pub fn new(bytes: &'a [u8]) -> Word<'a>
+impl<'a> Lexeme<'a> {
+    pub fn new(bytes: &'a [u8]) -> Lexeme<'a>
         ensures { result ≡ bytes.now }
     {
-        Word { bytes }
+        Lexeme { bytes }
     }
 
     pub fn as_bytes(&self) -> &'a [u8]
@@ -69,7 +69,7 @@ impl<'a> Word<'a> {
 #[derive(Debug, Drop)]
 pub enum Token<'a> {
     Mark(Sign),
-    Word(Word<'a>),
+    Word(Lexeme<'a>),
 }
 
 impl<'a> Token<'a> {
@@ -134,7 +134,7 @@ fn first_token(text: &[u8]) -> Option<Token<'_>>
     if word.is_empty() {
         return None;
     }
-    Some(Token::Word(Word::new(word)))
+    Some(Token::Word(Lexeme::new(word)))
 }
 
 /// The tokens of a rule, or the fault that a byte belongs to none.

@@ -8,7 +8,7 @@ use Rattle.pc_file.specs.Limits.{Contents}
 use Rattle.pc_file.specs.PrintedForm.{text_of_lines}
 use Rattle.pc_file.specs.Products.{products, value_counts, word_count, words_of}
 use Rattle.pc_file.proofs.BikeLemmas.{bike_is_file, bike_products, bike_text}
-use Rattle.pc_text.specs.Crowded.{crowded_line, is_crowded}
+use Rattle.pc_text.specs.TooManyWords.{has_too_many_words, too_many_words_at}
 use Rattle.pc_text.specs.FirstFault.{given_by}
 use Rattle.pc_text.specs.Given.{contents_given}
 use Rattle.pc_text.specs.Spells.{Spells}
@@ -75,9 +75,9 @@ body_spelled : (text : List ℕ) (file : Contents) → Spells text file → nat_
 unfolding body_of
 body_spelled text file spells few =
     let read = spelled_has_no_fault text file spells in
-    ap (λ fault. body_by fault (sound_body (is_crowded (given_by text)) (crowded_line text) (contents_given (given_by text)))) read.0
-    ∙ ap (λ (f : Contents). sound_body (nat_lt 65536 (word_count (value_counts f.variables))) (crowded_line text) f) read.1
-    ∙ ap (λ crowded. sound_body crowded (crowded_line text) file) few
+    ap (λ fault. body_by fault (sound_body (has_too_many_words (given_by text)) (too_many_words_at text) (contents_given (given_by text)))) read.0
+    ∙ ap (λ (f : Contents). sound_body (nat_lt 65536 (word_count (value_counts f.variables))) (too_many_words_at text) f) read.1
+    ∙ ap (λ too_many. sound_body too_many (too_many_words_at text) file) few
 
 bike_body : body_of (text_of_lines bike_lines) ≡ File bike
 bike_body = ap body_of text_lines ∙ body_spelled bike_printed bike (written_spells bike_printed bike (sym bike_text) bike_is_file refl) refl

@@ -1,5 +1,4 @@
 pub mod BikeText
-pub mod CrowdLemmas
 pub mod FaultLemmas
 pub mod Meanings
 pub mod NoFaultIsSpelled
@@ -13,4 +12,5 @@ pub mod SoundText
 pub mod SpelledHasNoFault
 pub mod SpellsExample
 pub mod StatementFaults
+pub mod TooManyLemmas
 pub mod ValueWords

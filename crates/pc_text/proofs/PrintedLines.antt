@@ -9,7 +9,7 @@ use Rattle.pc_names.specs.Name.{is_name}
 use Rattle.pc_file.specs.declared.variable.Variable.{Variable}
 use Rattle.pc_file.specs.Contents.{Contents}
 use Rattle.pc_file.specs.Limits.{value_names}
-use Rattle.pc_rules.specs.Nameable.{is_named}
+use Rattle.pc_print.specs.Nameable.{is_named}
 use Rattle.pc_text.specs.Named.{has_names}
 use Rattle.pc_file.specs.PrintedForm.{header_line, cost_line, variable_line, value_line, rule_line, end_line, variable_lines, with_feed, text_of_lines, printed}
 

@@ -14,10 +14,10 @@ use Rattle.pc_file.specs.Limits.{Contents, IsFile, is_sized, is_cost, is_value, 
 use Rattle.pc_file.specs.PrintedRule.{printed_rule}
 use Rattle.pc_file.specs.PrintedForm.{header_line, cost_line, variable_line, value_line, rule_line, end_line, variable_lines, printed_lines, text_of_lines, printed}
 use Rattle.pc_file.specs.Catalogue.{Indexes}
-use Rattle.pc_rules.specs.Nameable.{is_named, is_free, Nameable}
+use Rattle.pc_print.specs.Nameable.{is_named, is_free, Nameable}
 use Rattle.pc_rules.specs.RuleText.{IsRuleText}
-use Rattle.pc_rules.proofs.PrintedFeeds.{rule_has_no_feed}
-use Rattle.pc_rules.proofs.PrintedRuleText.{spaced_rule_spells}
+use Rattle.pc_print.proofs.PrintedFeeds.{rule_has_no_feed}
+use Rattle.pc_print.proofs.PrintedRuleText.{spaced_rule_spells}
 use Rattle.pc_text.specs.Given.{catalogue_of}
 use Rattle.pc_text.specs.FirstFault.{first_fault, given_by}
 use Rattle.pc_text.specs.Given.{contents_given}

@@ -13,7 +13,7 @@ use Rattle.pc_base.proofs.LineCuts.{HasNoFeed-append}
 use Rattle.pc_names.specs.Name.{is_name_byte, is_name}
 use Rattle.pc_names.proofs.NumberText.{small}
 use Rattle.pc_file.specs.PrintedForm.{line_of}
-use Rattle.pc_rules.proofs.PrintedTokens.{is_word, name-word}
+use Rattle.pc_print.proofs.PrintedTokens.{is_word, name-word}
 use Rattle.pc_names.specs.Spaces.{is_space, goes_on}
 use Rattle.pc_names.specs.LineWords.{words}
 use Rattle.pc_names.proofs.LineWordLemmas.{words-nil, words-space, words-last, words-more}

@@ -6,7 +6,8 @@ use Rattle.pc_text.specs.declared.keyword.Keyword.{Keyword}
 use Rattle.pc_text.specs.declared.keyword.Keyword.TheVariants as keyword
 use Rattle.pc_rules.specs.declared.kind.Kind.{Kind}
 use Rattle.pc_rules.specs.declared.kind.Kind.TheVariants as kind
-use Rattle.pc_text.specs.declared.limits.TheConstants.{LINE_BYTES, LINES, TEXT_BYTES}
+use Rattle.pc_file.specs.declared.sizes.TheConstants.{LINE_BYTES, TEXT_BYTES}
+use Rattle.pc_text.specs.declared.limits.TheConstants.{LINES}
 use Rattle.pc_names.specs.LineWords.{after_word}
 use Rattle.pc_text.specs.Given.{Given, nothing_given, variables_given, catalogue_of, is_skipped, keyword_at, arguments_at, give_statement}
 use Rattle.pc_text.specs.Orders.{statement_fault}

@@ -1,13 +1,13 @@
 pub mod Arguments
-pub mod Crowded
+pub mod Draft
 pub mod FirstFault
-pub mod GivenVariables
 pub mod Given
+pub mod GivenVariables
 pub mod Keyword
 pub mod Named
 pub mod Orders
-pub mod Draft
-pub mod Variables
 pub mod Spells
 pub mod Statement
 pub mod Told
+pub mod TooManyWords
+pub mod Variables

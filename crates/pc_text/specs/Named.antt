@@ -3,7 +3,7 @@ use Rattle.std.specs.Prelude.{Bool, ◌&&◌}
 use Rattle.std.specs.List.{list_all}
 use Rattle.pc_names.specs.Name.{is_name}
 use Rattle.pc_file.specs.Limits.{Contents}
-use Rattle.pc_rules.specs.Nameable.{is_named}
+use Rattle.pc_print.specs.Nameable.{is_named}
 
 -- the names of costs, variables and values are spelled as names
 abbrev pub has_names : Contents → Bool

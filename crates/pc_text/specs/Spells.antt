@@ -4,7 +4,8 @@ use Rattle.std.specs.List.{list_all, filter, AllZip}
 use Rattle.pc_base.specs.Lines.{lines}
 use Rattle.pc_file.specs.Limits.{Contents, IsFile}
 use Rattle.pc_text.specs.declared.text_fault.TextFault.{TextFault}
-use Rattle.pc_text.specs.declared.limits.TheConstants.{LINE_BYTES, LINES, TEXT_BYTES}
+use Rattle.pc_file.specs.declared.sizes.TheConstants.{LINE_BYTES, TEXT_BYTES}
+use Rattle.pc_text.specs.declared.limits.TheConstants.{LINES}
 use Rattle.pc_text.specs.declared.text_fault.TextFault.TheVariants.{At, NoMemory}
 use Rattle.pc_text.specs.Given.{is_skipped}
 use Rattle.pc_text.specs.Statement.{statements, Says}

@@ -12,7 +12,7 @@ ghost use Rattle.pc_rules.specs.declared.kind.Kind.{Kind};
 ghost use Rattle.pc_text.specs.Given.{argument, catalogue_of, contents_given, give, give_rule, give_statement, give_value, variables_given};
 ghost use Rattle.pc_text.specs.Orders.{fault_of_rule, first_standing, orders_within, print_fault, rule_fault, statement_fault, values_in};
 ghost use Rattle.pc_text.specs.FirstFault.{line_fault, give_line};
-ghost use Rattle.pc_text.specs.Crowded.{is_crowded};
+ghost use Rattle.pc_text.specs.TooManyWords.{has_too_many_words};
 ghost use Rattle.pc_names.specs.LineWords.{words};
 ghost use Rattle.pc_rules.specs.declared.kind.Kind.TheVariants.{Header};
 ghost use Rattle.pc_rules.specs.RuleText.{rule_of};
@@ -21,11 +21,11 @@ ghost use Rattle.pc_text.specs.Variables.{value_faults};
 ghost use Rattle.pc_text.specs.declared.keyword.Keyword.TheVariants as keyword;
 
 use crate::arguments::{argument, only_free_name, only_name, value_of};
-use crate::crowding::words_before;
 use crate::keyword::Keyword;
 use crate::line_words::arguments_of;
 use crate::statement_fault::StatementFault;
 use crate::variables::Variables;
+use crate::words_before::words_before;
 use pc_base::{NoMemory, Sequence};
 use pc_file::{
     File, MOST_COSTS, MOST_RULES, Rule, Value, cost_line_size, end_line_size, header_line_size,
@@ -91,8 +91,8 @@ impl Draft {
     }
 
     /// Whether the numbers of values of the variables so far multiply to more than `MOST_WORDS`.
-    pub fn is_crowded(&self) -> bool
-        ensures { result ≡ is_crowded (given_of self.now) }
+    pub fn has_too_many_words(&self) -> bool
+        ensures { result ≡ has_too_many_words (given_of self.now) }
     {
         match words_before(self.variables.closed(), self.variables.open_values()) {
             Some(_) => false,

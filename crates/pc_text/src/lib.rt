@@ -4,7 +4,6 @@
 #![tactic(auto)]
 
 mod arguments;
-mod crowding;
 mod draft;
 mod keyword;
 pub mod laws;
@@ -15,10 +14,11 @@ mod statement_fault;
 mod text;
 mod text_fault;
 mod variables;
+mod words_before;
 mod writer;
 
-pub use limits::{LINE_BYTES, LINES, TEXT_BYTES};
+pub use limits::LINES;
 pub use pc_rules::Kind;
-pub use text::{crowded_line, read_file};
+pub use text::{read_file, too_many_words_at};
 pub use text_fault::TextFault;
 pub use writer::write_file;

@@ -2,17 +2,18 @@
 
 ghost use Rattle.std.specs.Prelude.{◌≡◌, if◌then◌else◌, Some, None};
 ghost use Rattle.std.specs.Option.{option_or};
-ghost use Rattle.pc_text.specs.Crowded.{crowded_line, is_crowded};
+ghost use Rattle.pc_text.specs.TooManyWords.{has_too_many_words, too_many_words_at};
 ghost use Rattle.pc_text.specs.FirstFault.{end_fault, first_fault, give_line, given_by, is_large, line_fault};
 ghost use Rattle.pc_text.specs.Draft.{given_of};
 ghost use Rattle.pc_text.specs.Told.{TellsAt, ReadsText};
 
 use crate::draft::Draft;
 use crate::keyword::Keyword;
-use crate::limits::{LINE_BYTES, LINES, TEXT_BYTES};
+use crate::limits::LINES;
 use crate::statement_fault::StatementFault;
 use crate::text_fault::TextFault;
 use pc_base::cut_line;
+use pc_file::{LINE_BYTES, TEXT_BYTES};
 use pc_rules::Kind;
 use std::alloc::Global;
 
@@ -21,17 +22,17 @@ use std::alloc::Global;
 #[derive(Debug, Drop)]
 pub struct Statements {
     pub draft: Draft,
-    pub crowded: Option<u64>,
+    pub too_many_at: Option<u64>,
 }
 
 /// What all lines of a text give, or the first fault.
 pub fn read_statements(alloc: Global, text: &[u8]) -> Result<Statements, TextFault>
-    ensures { ReadsText (λ statements. (given_of statements.draft ≡ given_by text.now) × (statements.crowded ≡ crowded_line text.now)) result (first_fault text.now) }
+    ensures { ReadsText (λ statements. (given_of statements.draft ≡ given_by text.now) × (statements.too_many_at ≡ too_many_words_at text.now)) result (first_fault text.now) }
 {
     let mut draft = Draft::new(alloc);
     let mut rest = text;
     let mut number = 1;
-    let mut crowded = None;
+    let mut too_many_at = None;
     while !rest.is_empty() {
         let (line, after) = cut_line(rest);
         if is_large(number, text.len() - after.len(), line) {
@@ -44,24 +45,24 @@ pub fn read_statements(alloc: Global, text: &[u8]) -> Result<Statements, TextFau
             Ok(next) => draft = next,
             Err(fault) => return Err(fault),
         }
-        crowded = first_crowded(crowded, &draft, number);
+        too_many_at = first_too_many(too_many_at, &draft, number);
         rest = after;
         number += 1;
     }
     match end_fault(draft.last()) {
         Some(kind) => Err(TextFault::At { line: number, kind }),
-        None => Ok(Statements { draft, crowded }),
+        None => Ok(Statements { draft, too_many_at }),
     }
 }
 
-/// The line that was crowded first, where this one is read.
-fn first_crowded(crowded: Option<u64>, draft: &Draft, number: u64) -> Option<u64>
-    ensures { result ≡ option_or crowded (if is_crowded (given_of draft.now) then Some number else None) }
+/// The first line with too many words, where this one is read.
+fn first_too_many(too_many_at: Option<u64>, draft: &Draft, number: u64) -> Option<u64>
+    ensures { result ≡ option_or too_many_at (if has_too_many_words (given_of draft.now) then Some number else None) }
 {
-    if crowded.is_none() && draft.is_crowded() {
+    if too_many_at.is_none() && draft.has_too_many_words() {
         return Some(number);
     }
-    crowded
+    too_many_at
 }
 
 /// The next line, with its number, which a fault tells.

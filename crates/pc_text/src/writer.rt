@@ -6,14 +6,14 @@ ghost use Rattle.std.specs.List.{flat_map, list_all};
 ghost use Rattle.pc_file.specs.Limits.{IsFile};
 ghost use Rattle.pc_file.specs.PrintedForm.{cost_line, printed, rule_line, value_line, variable_line, with_feed};
 ghost use Rattle.pc_names.specs.Name.{is_name};
-ghost use Rattle.pc_rules.specs.Nameable.{is_named};
+ghost use Rattle.pc_print.specs.Nameable.{is_named};
 ghost use Rattle.pc_text.specs.Named.{has_names};
 ghost use Rattle.pc_text.specs.Spells.{Spells};
 
 use pc_base::{NoMemory, Text};
 use pc_file::{File, Rule, Value, Variable};
 use pc_names::Name;
-use pc_rules::push_rule;
+use pc_print::push_rule;
 use std::alloc::Global;
 
 /// The printed form of a file: its statements in order, each a line of words parted by one space. No command prints one

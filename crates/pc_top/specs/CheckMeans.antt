@@ -36,24 +36,24 @@ refused_diagram fault.NoMemory = record { status = NoMemory; text = [] }
 
 -- what is written of lines: how many nodes and edges a diagram has whose text they are; or the first fault of tables whose
 -- text they are; or the first line at which they go wrong
-abbrev pub Tells : Dump → Status → List ℕ → Type 0
-Tells (Tables raw) Done written = (first_fault raw ≡ None) × (written ≡ (good (sum raw.sizes) (edge_count raw)).text)
-Tells (Tables raw) WrongWords written = ⊥
-Tells (Tables raw) Refused written = (found : DiagramFault) × (first_fault raw ≡ Some found) × (written ≡ (refused_diagram found).text)
-Tells (Tables raw) ReadFault written = ⊥
-Tells (Tables raw) WriteFault written = ⊥
-Tells (Tables raw) NoMemory written = ⊥
-Tells (Tables raw) TooLong written = ⊥
-Tells (Misfit line) Done written = ⊥
-Tells (Misfit line) WrongWords written = ⊥
-Tells (Misfit line) Refused written = written ≡ (refused_form line).text
-Tells (Misfit line) ReadFault written = ⊥
-Tells (Misfit line) WriteFault written = ⊥
-Tells (Misfit line) NoMemory written = ⊥
-Tells (Misfit line) TooLong written = ⊥
+abbrev pub CheckTells : Dump → Status → List ℕ → Type 0
+CheckTells (Tables raw) Done written = (first_fault raw ≡ None) × (written ≡ (good (sum raw.sizes) (edge_count raw)).text)
+CheckTells (Tables raw) WrongWords written = ⊥
+CheckTells (Tables raw) Refused written = (found : DiagramFault) × (first_fault raw ≡ Some found) × (written ≡ (refused_diagram found).text)
+CheckTells (Tables raw) ReadFault written = ⊥
+CheckTells (Tables raw) WriteFault written = ⊥
+CheckTells (Tables raw) NoMemory written = ⊥
+CheckTells (Tables raw) TooLong written = ⊥
+CheckTells (Misfit line) Done written = ⊥
+CheckTells (Misfit line) WrongWords written = ⊥
+CheckTells (Misfit line) Refused written = written ≡ (refused_form line).text
+CheckTells (Misfit line) ReadFault written = ⊥
+CheckTells (Misfit line) WriteFault written = ⊥
+CheckTells (Misfit line) NoMemory written = ⊥
+CheckTells (Misfit line) TooLong written = ⊥
 
 -- what it means that a text gets this status and what is written
 pub record CheckMeans (status : Status) (text written : List ℕ) : Type 0 where
   pub dump : Dump
   pub lines : IsDump dump (cut_lines text)
-  pub tells : Tells dump status written
+  pub tells : CheckTells dump status written

@@ -7,7 +7,7 @@ use Rattle.pc_file.specs.Limits.{Contents}
 use Rattle.pc_file.specs.ListingText.{listing_text}
 use Rattle.pc_file.specs.Products.{products, words_of}
 use Rattle.pc_rules.specs.declared.kind.Kind.{Kind}
-use Rattle.pc_text.specs.Crowded.{crowded_line}
+use Rattle.pc_text.specs.TooManyWords.{too_many_words_at}
 use Rattle.pc_text.specs.FirstFault.{first_fault}
 use Rattle.pc_text.specs.Spells.{Spells}
 use Rattle.pc_top.specs.declared.status.Status.{Status}
@@ -34,7 +34,7 @@ pub record IsNotBuilt (text written : List ℕ) : Type 0 where
   pub file : Contents
   pub spells : Spells text file
   pub many_words : MOST_WORDS < words_of file
-  pub writes : written ≡ (refused_not_built (crowded_line text)).text
+  pub writes : written ≡ (refused_not_built (too_many_words_at text)).text
 
 -- the text spells a file without a product
 pub record HasNoProduct (text written : List ℕ) : Type 0 where

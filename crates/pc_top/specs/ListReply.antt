@@ -7,7 +7,7 @@ use Rattle.pc_file.specs.Limits.{Contents}
 use Rattle.pc_file.specs.ListingText.{listing_text}
 use Rattle.pc_file.specs.Products.{products, words_of}
 use Rattle.pc_rules.specs.declared.kind.Kind.{Kind}
-use Rattle.pc_text.specs.Crowded.{crowded_line}
+use Rattle.pc_text.specs.TooManyWords.{too_many_words_at}
 use Rattle.pc_text.specs.FirstFault.{first_fault, given_by}
 use Rattle.pc_text.specs.Given.{contents_given}
 use Rattle.pc_rules.specs.KindWord.{kind_word}
@@ -42,12 +42,12 @@ listed file words = if nat_eq (length words) 0 then refused_no_product else list
 
 -- a file that is too large for the plain list, or not
 unfoldable pub file_reply : Contents → Option ℕ → Output
-file_reply file crowded = if nat_lt MOST_WORDS (words_of file) then refused_not_built crowded else listed file (products file)
+file_reply file too_many_at = if nat_lt MOST_WORDS (words_of file) then refused_not_built too_many_at else listed file (products file)
 
 abbrev pub reply_by : Option (ℕ × Kind) → Contents → Option ℕ → Output
-reply_by (Some fault) file crowded = refused_text fault.0 fault.1
-reply_by None file crowded = file_reply file crowded
+reply_by (Some fault) file too_many_at = refused_text fault.0 fault.1
+reply_by None file too_many_at = file_reply file too_many_at
 
 -- the answer to a text
 unfoldable pub list_reply : List ℕ → Output
-list_reply text = reply_by (first_fault text) (contents_given (given_by text)) (crowded_line text)
+list_reply text = reply_by (first_fault text) (contents_given (given_by text)) (too_many_words_at text)

@@ -2,7 +2,7 @@
 
 ghost use Rattle.std.specs.Prelude.{◌≢◌, sum, IfOk, OnOk};
 ghost use Rattle.pc_diagram.specs.Levels.{edge_count};
-ghost use Rattle.pc_top.specs.CheckMeans.{Tells, good, refused_at, refused_diagram, refused_form};
+ghost use Rattle.pc_top.specs.CheckMeans.{CheckTells, good, refused_at, refused_diagram, refused_form};
 ghost use Rattle.pc_top.specs.Reply.{Is};
 
 use crate::reply::Reply;
@@ -15,7 +15,7 @@ use std::alloc::Global;
 /// What is told of a dump's lines: how many nodes and edges the diagram has whose text they are; or one line that says
 /// why they are that of none.
 pub fn check_reply(alloc: Global, dump: Dump) -> Result<Reply, NoMemory>
-    ensures { IfOk result (λ reply. Tells dump reply.status reply.text) }
+    ensures { IfOk result (λ reply. CheckTells dump reply.status reply.text) }
 {
     match dump {
         Dump::Tables(raw) => match Diagram::check(alloc, raw) {

@@ -12,11 +12,12 @@ use crate::check_reply::check_reply;
 use crate::reply::Reply;
 use crate::status::Status;
 use pc_dump::read_dump;
+use pc_file::TEXT_BYTES;
 use pc_io::{LineFault, MOST_LINE_BYTES, Sink, Source, put_all, whole_text};
 use std::alloc::Global;
 
 /// The most bytes of a product text.
-pub const MOST_TEXT_BYTES: u64 = 1_048_576;
+pub const MOST_TEXT_BYTES: u64 = TEXT_BYTES as u64;
 
 /// The most bytes of a dump.
 pub const MOST_DUMP_BYTES: u64 = 134_217_728;

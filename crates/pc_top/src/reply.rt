@@ -9,7 +9,7 @@ use pc_build::{BuildFault, compile};
 use pc_diagram::{Bounds, Choices, Diagram, Word};
 use pc_dump::push_dump;
 use pc_file::{File, PlainFault, SharedFile, listing_over, plain_products, push_listing};
-use pc_text::{Kind, TextFault, crowded_line, read_file};
+use pc_text::{Kind, TextFault, read_file, too_many_words_at};
 use std::alloc::Global;
 
 /// A status and all bytes of the output.
@@ -22,7 +22,7 @@ pub struct Reply {
 impl Reply {
     ghost use Rattle.pc_file.specs.Products.{words_of};
     ghost use Rattle.std.specs.Prelude.{true};
-    ghost use Rattle.pc_text.specs.Crowded.{crowded_line, is_crowded};
+    ghost use Rattle.pc_text.specs.TooManyWords.{has_too_many_words, too_many_words_at};
     ghost use Rattle.pc_text.specs.FirstFault.{first_fault, given_by};
     ghost use Rattle.pc_top.specs.ListReply.{list_reply, listed, refused_no_product, refused_not_built, refused_text};
     ghost use Rattle.pc_top.specs.ListMeans.{ListMeans};
@@ -66,10 +66,10 @@ impl Reply {
     /// The line for a text whose file is too large to be listed.
     fn not_built(alloc: Global, text: &[u8]) -> Result<Reply, NoMemory>
         requires sound { first_fault text.now ≡ None }
-        requires crowded { is_crowded (given_by text.now) ≡ true }
-        ensures { IfOk result (λ reply. Is reply (refused_not_built (crowded_line text.now))) }
+        requires too_many { has_too_many_words (given_by text.now) ≡ true }
+        ensures { IfOk result (λ reply. Is reply (refused_not_built (too_many_words_at text.now))) }
     {
-        match crowded_line(alloc, text) {
+        match too_many_words_at(alloc, text) {
             Ok(Some(line)) => Reply::refused_not_built(alloc, line),
             Ok(None) => unreachable!(),
             Err(_) => Err(NoMemory),

@@ -10,8 +10,8 @@ use Rattle.pc_text.specs.Told.{TellsAt, ReadsText}
 use Rattle.pc_text.specs.FirstFault.{is_large, end_fault, at, first_fault, given_by, give_line, line_fault}
 use Rattle.pc_text.specs.declared.draft.Draft.{Draft}
 use Rattle.pc_text.specs.Draft.{given_of}
-use Rattle.pc_text.specs.Crowded.{crowded_line}
-use Rattle.pc_text.proofs.CrowdLemmas.{crowded_more, crowded_all}
+use Rattle.pc_text.specs.TooManyWords.{too_many_words_at}
+use Rattle.pc_text.proofs.TooManyLemmas.{too_many_more, too_many_all}
 use Rattle.pc_text.proofs.FaultLemmas.{given_step, fault_end, given_end, less_after, stops_large, stops_faulty, goes_on}
 use Rattle.pc_text.proofs.reading.read_statements.Goals as goal
 
@@ -43,7 +43,7 @@ returns-in-Err c =
     let some : 0 < length rest = grind (arith, c.is_empty.ensures, c.loop-rest-test.true) in
     let i = c.loop-rest.invariant in
     let small : is_large c.loop-rest.number (length text - length c.cut_line.result.1.now) line ≡ false = sym c.is_large.ensures ∙ c.if-is_large.false in
-    told (λ (statements : Statements). (given_of statements.draft ≡ given_by text) × (statements.crowded ≡ crowded_line text)) c.in-Err.fault c.loop-rest.number (line_fault given line) (λ (next : Draft). given_of next ≡ give_line given line) (first_fault text)
+    told (λ (statements : Statements). (given_of statements.draft ≡ given_by text) × (statements.too_many_at ≡ too_many_words_at text)) c.in-Err.fault c.loop-rest.number (line_fault given line) (λ (next : Draft). given_of next ≡ give_line given line) (first_fault text)
     (λ kind. stops_faulty given c.loop-rest.number text rest line c.cut_line.result.1.now some i.within c.cut_line.ensures.line c.cut_line.ensures.after i.fault kind small)
     c.in-Err.ensures
 
@@ -76,8 +76,8 @@ loop-rest-preserved c =
       numbered = few (length line) (length text - length after) number true small;
       fault = rw answer.1 (goes_on given number text rest line after some i.within c.cut_line.ensures.line c.cut_line.ensures.after i.fault small answer.0);
       given = rw (answer.1, c.cut_line.ensures.after, c.cut_line.ensures.line) (sym (given_step given rest some) ∙ i.given);
-      crowded = rw (c.first_crowded-crowded.ensures, c.cut_line.ensures.after)
-          (crowded_more c.loop-rest.crowded given (given_of c.in-Ok.next) number rest (crowded_line text) some (answer.1 ∙ ap (give_line given) c.cut_line.ensures.line) i.crowded);
+      too_many_at = rw (c.first_too_many-too_many_at.ensures, c.cut_line.ensures.after)
+          (too_many_more c.loop-rest.too_many_at given (given_of c.in-Ok.next) number rest (too_many_words_at text) some (answer.1 ∙ ap (give_line given) c.cut_line.ensures.line) i.too_many_at);
     }
 
 pub returns-in-Some : goal.returns-in-Some
@@ -101,4 +101,4 @@ returns-in-None c =
     let sound : first_fault text ≡ None =
     sym i.fault ∙ fault_end given c.loop-rest.number (length text - length rest) (length text) rest empty ∙ ap (λ last. at c.loop-rest.number (end_fault last)) (sym c.last.ensures)
     ∙ ap (at c.loop-rest.number) (sym c.in-None.ensures) in
-    (sound, (held, crowded_all c.loop-rest.crowded given c.loop-rest.number rest (crowded_line text) empty i.crowded))
+    (sound, (held, too_many_all c.loop-rest.too_many_at given c.loop-rest.number rest (too_many_words_at text) empty i.too_many_at))

@@ -2,7 +2,7 @@
 use Rattle.std.proofs.Common.{◌≡◌, sym, subst}
 use Rattle.pc_file.specs.Limits.{IsFile}
 use Rattle.pc_text.specs.declared.reading.Statements.{Statements}
-use Rattle.pc_text.specs.Crowded.{crowded_line}
+use Rattle.pc_text.specs.TooManyWords.{too_many_words_at}
 use Rattle.pc_text.specs.FirstFault.{given_by}
 use Rattle.pc_text.specs.Given.{contents_given}
 use Rattle.pc_text.specs.Draft.{given_of}
@@ -23,4 +23,4 @@ pub returns-in-Ok-into_file-clause-only : goal.returns-in-Ok-into_file-clause-on
 returns-in-Ok-into_file-clause-only c = read_only c.args.text.now (given_of c.in-Ok.statements.draft) c.in-Ok-into_file.file c.in-Ok.ensures.1.0 c.in-Ok-into_file.ensures
 
 pub returns-in-Err-clause-only : goal.returns-in-Err-clause-only
-returns-in-Err-clause-only c = fault_gives (λ (statements : Statements). (given_of statements.draft ≡ given_by c.args.text.now) × (statements.crowded ≡ crowded_line c.args.text.now)) c.args.text.now c.in-Err.fault c.in-Err.ensures
+returns-in-Err-clause-only c = fault_gives (λ (statements : Statements). (given_of statements.draft ≡ given_by c.args.text.now) × (statements.too_many_at ≡ too_many_words_at c.args.text.now)) c.args.text.now c.in-Err.fault c.in-Err.ensures

@@ -1,6 +1,6 @@
 use Rattle.std.proofs.Common.{List, ℕ, ◌++◌, take, ap, sym, ◌∙◌, append_assoc, arith}
 use Rattle.std.specs.List.{flat_map}
-use Rattle.pc_rules.specs.Nameable.{is_named}
+use Rattle.pc_print.specs.Nameable.{is_named}
 use Rattle.pc_text.proofs.PrintedLines.{variable_text, flat_map-more, list_all-more}
 use Rattle.pc_text.proofs.writer.push_variables.Goals as goal
 

@@ -1,7 +1,7 @@
 use Rattle.std.proofs.Common.{◌≡◌, true, ◌++◌, take}
 use Rattle.std.specs.List.{flat_map, list_all}
 use Rattle.pc_file.specs.PrintedForm.{value_line, variable_line, with_feed}
-use Rattle.pc_rules.specs.Nameable.{is_named}
+use Rattle.pc_print.specs.Nameable.{is_named}
 use Rattle.pc_text.proofs.writer.push_variables.Given as goal
 
 abbrev pub invariant-loop-variable : goal.invariant-loop-variable
