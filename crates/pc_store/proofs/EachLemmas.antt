@@ -146,6 +146,55 @@ each_step x old new zero_stays other_comes before h = by (x == 0) refl
     by true e = subst (NamesEach (before ++ x ∷ [])) (sym (zero_stays e)) (each_zero before old x e h)
     by false e = subst (NamesEach (before ++ x ∷ [])) (sym (other_comes e)) (each_more before old x e h)
 
+-- a number comes that is 0 or was there
+pub each_again : (x last : ℕ) (before kept : List ℕ) → x ≡ last → list_any (nat_eq last) (0 ∷ before) ≡ true → NamesEach before kept → NamesEach (before ++ x ∷ []) kept
+each_again x last before kept same was h = record {
+  once = h.once;
+  each = λ q. h.each q ∙ sym (ap (λ b. not (q == 0) && b) (list_any-append (nat_eq q) before (x ∷ [])) ∙ by q (nat_eq q x) refl);
+}
+  where
+    equal : (q : ℕ) → nat_eq q x ≡ true → last ≡ q
+    equal q e = grind (arith, nat_tests)
+
+    cases : (q : ℕ) (n : Bool) → (nat_eq q 0 || n) ≡ true → (not (q == 0) && (n || (true || false))) ≡ (not (q == 0) && n)
+    cases q true e = refl
+    cases q false e = grind (arith, nat_tests)
+
+    drop_false : (z n : Bool) → (z && (n || (false || false))) ≡ (z && n)
+    drop_false z true = refl
+    drop_false z false = refl
+
+    by : (q : ℕ) (b : Bool) → nat_eq q x ≡ b → (not (q == 0) && (list_any (nat_eq q) before || (nat_eq q x || false))) ≡ (not (q == 0) && list_any (nat_eq q) before)
+    by q true e =
+        ap (λ b. not (q == 0) && (list_any (nat_eq q) before || (b || false))) e
+        ∙ cases q (list_any (nat_eq q) before) (subst (λ n. list_any (nat_eq n) (0 ∷ before) ≡ true) (equal q e) was)
+    by q false e = ap (λ b. not (q == 0) && (list_any (nat_eq q) before || (b || false))) e ∙ drop_false (not (q == 0)) (list_any (nat_eq q) before)
+
+-- the last of the numbers up to one place more is among 0 and these
+pub last_was : (before nodes : List ℕ) (i last : ℕ) → list_any (nat_eq last) (0 ∷ take i nodes) ≡ true → list_any (nat_eq last) (0 ∷ (before ++ take i nodes)) ≡ true
+last_was before nodes i last h =
+    ap (λ b. nat_eq last 0 || b) (list_any-append (nat_eq last) before (take i nodes)) ∙ by (nat_eq last 0) (list_any (nat_eq last) before) (list_any (nat_eq last) (take i nodes)) h
+  where
+    by : (z b t : Bool) → (z || t) ≡ true → (z || (b || t)) ≡ true
+    by true b t e = refl
+    by false true t e = refl
+    by false false t e = e
+
+pub last_is : (nodes : List ℕ) (i last : ℕ) → i < length nodes → last ≡ get_or nodes i 0 → list_any (nat_eq last) (0 ∷ take (i + 1) nodes) ≡ true
+last_is nodes i last lt is =
+    ap (λ l. nat_eq last 0 || list_any (nat_eq last) l) (take_more nodes i 0 lt)
+    ∙ ap (λ b. nat_eq last 0 || b) (list_any-append (nat_eq last) (take i nodes) (get_or nodes i 0 ∷ []))
+    ∙ ap (λ b. nat_eq last 0 || (list_any (nat_eq last) (take i nodes) || (b || false))) (same last (get_or nodes i 0) is)
+    ∙ by (nat_eq last 0) (list_any (nat_eq last) (take i nodes))
+  where
+    same : (m n : ℕ) → m ≡ n → nat_eq m n ≡ true
+    same m n e = grind (arith, nat_tests)
+
+    by : (z t : Bool) → (z || (t || true)) ≡ true
+    by true t = refl
+    by false true = refl
+    by false false = refl
+
 -- the numbers up to one place more
 pub each_take : (before nodes kept : List ℕ) (i : ℕ) → i < length nodes → NamesEach ((before ++ take i nodes) ++ get_or nodes i 0 ∷ []) kept → NamesEach (before ++ take (i + 1) nodes) kept
 each_take before nodes kept i lt h =

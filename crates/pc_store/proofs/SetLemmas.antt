@@ -10,7 +10,7 @@ use Rattle.pc_base.specs.declared.memory.NoMemory.{NoMemory}
 use Rattle.pc_store.specs.declared.id.Id.{Id}
 use Rattle.pc_store.specs.declared.layer.Layer.{Layer}
 use Rattle.pc_store.specs.Layered.{row_of, node_count, accepts, IsRow, IsLayer, IsLayered, IsStore, IsDomain, RowFits, HasRow, with_row_at}
-use Rattle.pc_store.specs.Sets.{domains_of, layer_of, IsNamed, NamesSet, IsId, IsIdAt, has, has_in, leads, SameWords, Keeps}
+use Rattle.pc_store.specs.Sets.{domains_of, layer_of, IsNamed, IsId, IsIdAt, has, has_in, leads, SameWords, Keeps}
 use Rattle.pc_store.proofs.LayerLemmas.{two_nodes, empty_node, full_node, accepts_words, same_words, stands_within}
 use Rattle.pc_store.proofs.GrowthLemmas.{Grows, grows_domains, grows_length, grows_count, grows_drop, grows_accepts, grows_with, store_with}
 

@@ -1,7 +1,7 @@
 //! How large sets are.
 
-ghost use Rattle.std.specs.Prelude.{◌≡◌, ◌<◌, [], ◌∷◌, ◌++◌, ℕ, List, length, map, All, IfOk, OnOk};
-ghost use Rattle.std.specs.List.{flat_map};
+ghost use Rattle.std.specs.Prelude.{◌≡◌, ◌<◌, [], ◌∷◌, ◌++◌, ℕ, List, nat_eq, true, length, map, All, IfOk, OnOk};
+ghost use Rattle.std.specs.List.{list_any, flat_map};
 ghost use Rattle.pc_diagram.specs.Rests.{size};
 ghost use Rattle.pc_store.specs.Each.{NamesEach};
 ghost use Rattle.pc_store.specs.Layered.{row_of, node_count, accepts, IsLayered};
@@ -46,8 +46,21 @@ fn children_of(alloc: Global, layer: &Layer, nodes: &[u32]) -> Result<IndexSet<u
 fn add_each(set: &mut IndexSet<u32>, nodes: &[u32]) -> Result<(), NoMemory>
     ensures { OnOk result ((before : List ℕ) → NamesEach before set.old.keys → NamesEach (before ++ nodes.now) set.new.keys) }
 {
+    let mut last = EMPTY;
     for node in nodes {
-        add(set, *node)?;
+        add_after(set, last, *node)?;
+        last = *node;
+    }
+    Ok(())
+}
+
+/// Puts a node into a set, unless it is the one without words, or one that was put before. That one is found without
+/// its hash.
+fn add_after(set: &mut IndexSet<u32>, last: u32, node: u32) -> Result<(), NoMemory>
+    ensures { OnOk result ((before : List ℕ) → list_any (nat_eq last) (0 ∷ before) ≡ true → NamesEach before set.old.keys → NamesEach (before ++ node ∷ []) set.new.keys) }
+{
+    if node != last {
+        add(set, node)?;
     }
     Ok(())
 }
