@@ -7,7 +7,7 @@ ghost use Rattle.pc_apply.specs.Pairs.{HasBoth, pairs_at};
 
 use crate::pair::{Operation, Pair};
 use crate::plan::Plan;
-use crate::states::place;
+use crate::states::place_near;
 use indexmap::IndexSet;
 use pc_base::NoMemory;
 use pc_diagram::MOST_VARIABLES;
@@ -96,7 +96,8 @@ fn expand_pair(
             left: left.node(value),
             right: right.node(value),
         };
-        targets.push(place(below, next)?)?;
+        let near = targets.last().copied();
+        targets.push(place_near(below, near, next)?)?;
     }
     Ok(())
 }

@@ -22,13 +22,13 @@ loop-value-preserved c =
     let next_question = pairs_at store (layer + 1) operation in
     let value = c.loop-value.value in
     let next : Pair = record { left = c.node.result; right = c.node-in-loop-value.result } in
-    subst (Expanded store layer question next_question c.args.pair (value + 1) c.args.below.now.keys c.place.new.states.keys c.args.targets.now.items) (sym {A = List ℕ} c.in_ok-push.ensures.items)
-    (expanded_more same_pair store layer question next_question c.args.pair value c.args.below.now.keys c.loop-value.below.keys c.args.targets.now.items c.loop-value.targets.items next c.in_ok-place.field-0 c.place.new.states.keys
+    subst (Expanded store layer question next_question c.args.pair (value + 1) c.args.below.now.keys c.place_near.new.states.keys c.args.targets.now.items) (sym {A = List ℕ} c.in_ok-push.ensures.items)
+    (expanded_more same_pair store layer question next_question c.args.pair value c.args.below.now.keys c.loop-value.below.keys c.args.targets.now.items c.loop-value.targets.items next c.in_ok-place_near.field-0 c.place_near.new.states.keys
     (pairs_alike store layer operation) (c.loop-value.invariant operation)
     (pair_follows store layer operation c.args.pair next value
     (c.children-left.ensures.nodes value next.left c.node.ensures) (c.children-left.ensures.sets value next.left c.node.ensures)
     (c.children-right.ensures.nodes value next.right c.node-in-loop-value.ensures) (c.children-right.ensures.sets value next.right c.node-in-loop-value.ensures))
-    c.in_ok-place.ensures.stands c.in_ok-place.ensures.keys)
+    c.in_ok-place_near.ensures.stands c.in_ok-place_near.ensures.keys)
 
 pub returns-clause-leads : goal.returns-clause-leads
 returns-clause-leads c =
