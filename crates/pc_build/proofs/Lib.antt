@@ -7,6 +7,7 @@ pub mod EdgeLemmas
 pub mod ExtractLemmas
 pub mod NamedLemmas
 pub mod SameLemmas
+pub mod SpanLemmas
 pub mod TablesLemmas
 pub mod TrieLemmas
 pub mod WordLemmas

@@ -1,5 +1,5 @@
 -- Rows of demands, and the sets of the words that meet one of them.
-use Rattle.std.proofs.Common.{◌≡◌, ℕ, ◌+◌, ◌<◌, nat_lt, Bool, true, false, ◌&&◌, ◌||◌, List, [], ◌∷◌, ◌++◌, take, drop, length, get_or, refl, sym, ap, ◌∙◌}
+use Rattle.std.proofs.Common.{◌≡◌, ℕ, zero, suc, ◌+◌, ◌<◌, ◌≤◌, nat_lt, Bool, true, false, ◌&&◌, ◌||◌, List, [], ◌∷◌, ◌++◌, take, drop, length, get_or, refl, sym, ap, ◌∙◌, arith}
 use Rattle.std.specs.List.{list_any}
 use Rattle.std.proofs.lemmas.List.{take_more}
 use Rattle.std.proofs.lemmas.List.Folds.{list_any-append}
@@ -87,8 +87,33 @@ ends_more rows i row lt read some h = some_more (λ r. meets r []) rows i row lt
     unmet [] filled = absurd (filled refl)
     unmet (demand ∷ demands) filled = refl
 
+-- a row without demands is met by every word
+pub ends_all : (rows : List (List Demand)) → some_meets rows [] ≡ true → (word : List ℕ) → some_meets rows word ≡ true
+ends_all [] h word = absurd cc
+ends_all ([] ∷ rows) h word = refl
+ends_all ((demand ∷ demands) ∷ rows) h word = ap (λ b. meets (demand ∷ demands) word || b) (ends_all rows h word) ∙ or_true (meets (demand ∷ demands) word)
+  where
+    or_true : (b : Bool) → (b || true) ≡ true
+    or_true true = refl
+    or_true false = refl
+
+-- past the last variable no word meets rows that each have a demand
+pub ends_none : (rows : List (List Demand)) (layer : ℕ) (domains : List ℕ) → layer ≡ length domains → some_meets rows [] ≡ false → (word : List ℕ) → (is_word (drop layer domains) word && some_meets rows word) ≡ false
+ends_none rows layer domains end h [] = ap (λ b. is_word (drop layer domains) [] && b) h ∙ and_false (is_word (drop layer domains) [])
+  where
+    and_false : (b : Bool) → (b && false) ≡ false
+    and_false true = refl
+    and_false false = refl
+ends_none rows layer domains end h (value ∷ word) = ap (λ l. is_word l (value ∷ word) && some_meets rows (value ∷ word)) (drop_all domains layer (omega arith))
+  where
+    drop_all : (xs : List ℕ) (n : ℕ) → length xs ≤ n → drop n xs ≡ []
+    drop_all [] zero le = refl
+    drop_all [] (suc n) le = refl
+    drop_all (x ∷ xs) zero le = absurd (omega arith)
+    drop_all (x ∷ xs) (suc n) le = drop_all xs n (omega arith)
+
 -- the demands of one row more
-pub demands_more : (rows : List (List ℕ)) (variables : List ℕ) (demands : List (List Demand)) (i : ℕ) (row : List ℕ) (asked : List Demand) (word : List ℕ) → i < length rows → row ≡ get_or rows i row → meets asked word ≡ row_fits word variables row → some_meets demands word ≡ list_any (row_fits word variables) (take i rows) →
-    some_meets (demands ++ asked ∷ []) word ≡ list_any (row_fits word variables) (take (i + 1) rows)
-demands_more rows variables demands i row asked word lt read fits h =
-    list_any-append (λ r. meets r word) demands (asked ∷ []) ∙ (λ k. h k || (fits k || false)) ∙ sym (some_more (row_fits word variables) rows i row lt read)
+pub demands_more : (rows : List (List ℕ)) (variables : List ℕ) (demands : List (List Demand)) (i : ℕ) (row : List ℕ) (asked : List Demand) (word rest : List ℕ) → i < length rows → row ≡ get_or rows i row → meets asked rest ≡ row_fits word variables row → some_meets demands rest ≡ list_any (row_fits word variables) (take i rows) →
+    some_meets (demands ++ asked ∷ []) rest ≡ list_any (row_fits word variables) (take (i + 1) rows)
+demands_more rows variables demands i row asked word rest lt read fits h =
+    list_any-append (λ r. meets r rest) demands (asked ∷ []) ∙ (λ k. h k || (fits k || false)) ∙ sym (some_more (row_fits word variables) rows i row lt read)

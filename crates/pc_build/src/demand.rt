@@ -1,9 +1,10 @@
 //! What the row of a table asks of each variable.
 
-ghost use Rattle.std.specs.Prelude.{◌≡◌, ◌<◌, ◌&&◌, ℕ, List, nat_eq, All, length, true, IsTrue, IfOk};
+ghost use Rattle.std.specs.Prelude.{◌≡◌, ◌≤◌, ◌+◌, ◌&&◌, ℕ, List, nat_eq, drop, length, true, IsTrue, IfOk};
 ghost use Rattle.pc_file.specs.Rule.{row_fits};
-ghost use Rattle.pc_build.specs.Demands.{allows, meets};
+ghost use Rattle.pc_build.specs.Demands.{allows, meets, Spans};
 
+use crate::span::Span;
 use pc_base::{NoMemory, Sequence};
 use std::alloc::Global;
 
@@ -49,21 +50,20 @@ impl Demand {
     }
 }
 
-/// What a row asks of each of so many variables.
+/// What a row asks of each of so many variables from a first one on.
 pub(crate) fn demands_of(
     alloc: Global,
-    count: u32,
+    span: Span,
     variables: &[u32],
     row: &[u32],
 ) -> Result<Sequence<Demand>, NoMemory>
-    requires { All (λ variable. variable < count) variables.now }
-    ensures count { IfOk result (λ demands. length demands ≡ count) }
-    ensures words { IfOk result (λ demands. (word : List ℕ) → length word ≡ count
-        → meets demands word ≡ row_fits word variables.now row.now) }
+    requires { Spans variables.now span }
+    ensures { IfOk result (λ demands. (word : List ℕ) → span.first + span.count ≤ length word
+        → meets demands (drop span.first word) ≡ row_fits word variables.now row.now) }
 {
-    let mut demands = vec![in alloc; Demand::Any; count as usize]?;
+    let mut demands = vec![in alloc; Demand::Any; span.count as usize]?;
     for (variable, value) in variables.iter().zip(row) {
-        let place = *variable as usize;
+        let place = (*variable - span.first) as usize;
         demands[place] = demands[place].with(*value);
     }
     Ok(Sequence::from_vec(demands))

@@ -15,7 +15,7 @@ use std::alloc::Global;
 /// The fewest places that are made again of a store's nodes, unless more nodes than are allowed may stand among them.
 const FEWEST: u64 = 4096;
 
-/// The words for which some rules hold, and how many places they may take before they are made again: twice as many as
+/// The words for which some rules hold, and how many places they may take before they are made again: four times as many as
 /// there were then.
 #[derive(Debug, Drop)]
 pub(crate) struct Joint {
@@ -51,7 +51,7 @@ impl Joint {
             return Err(PartFault::TooLarge { part });
         }
         let all = Conjunction::of(&stored.store, stored.set)?;
-        let room = all.most_nodes().saturating_mul(2).max(FEWEST);
+        let room = all.most_nodes().saturating_mul(4).max(FEWEST);
         *made = part;
         Ok(Joint { all, room })
     }

@@ -20,6 +20,7 @@ mod parts;
 mod products;
 mod rules;
 mod same;
+mod span;
 mod table;
 mod tables;
 mod trie;

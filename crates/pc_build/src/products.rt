@@ -14,7 +14,6 @@ use pc_base::{NoMemory, Sequence};
 use pc_conjunction::Stored;
 use pc_diagram::MOST_NODES;
 use pc_file::{File, Variable};
-use pc_store::Store;
 use std::alloc::Global;
 
 /// The set of a file's products, in a store of its own. It is made rule by rule, part by part.
@@ -32,8 +31,7 @@ pub(crate) fn set_of_products(alloc: Global, file: &File) -> Result<Stored, Buil
     ensures fault { IfErr result (IsBuildFault file.now) }
 {
     let domains = domains_of(alloc, file.variables())?;
-    let mut store = Store::new(alloc, domains.as_slice())?;
-    let all = words_of_rules(&mut store, file.variables(), file.rules())?;
+    let all = words_of_rules(alloc, domains.as_slice(), file.variables(), file.rules())?;
     let made = all.stored(alloc)?;
     if made.store.same_set(made.set, made.store.empty(0)) {
         return Err(BuildFault::NoProduct);

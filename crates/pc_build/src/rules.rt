@@ -1,7 +1,8 @@
 //! The words for which all rules hold.
 
-ghost use Rattle.std.specs.Prelude.{◌≡◌, ◌&&◌, ℕ, Bool, List, [], ◌∷◌, ◌++◌, true, false, length, ◌<◌, ◌^◌, IfOk, IfErr};
+ghost use Rattle.std.specs.Prelude.{◌≡◌, ◌&&◌, ℕ, Bool, List, [], ◌∷◌, ◌++◌, true, false, length, ◌<◌, ◌≤◌, ◌^◌, All, IfOk, IfErr};
 ghost use Rattle.std.specs.List.{list_all, list_any};
+ghost use Rattle.pc_store.specs.Layered.{IsDomain};
 ghost use Rattle.pc_store.specs.Sets.{domains_of, Keeps};
 ghost use Rattle.pc_file.specs.Products.{value_counts};
 ghost use Rattle.pc_file.specs.Rule.{holds};
@@ -13,28 +14,38 @@ ghost use Rattle.pc_build.specs.Building.{IsJoinFault};
 use crate::fault::{BuildFault, PartFault};
 use crate::joint::Joint;
 use crate::parts::set_of_rule;
+use pc_base::NoMemory;
 use pc_conjunction::Conjunction;
-use pc_diagram::MOST_NODES;
+use pc_diagram::{MOST_NODES, MOST_VARIABLES};
 use pc_file::{Rule, Variable};
 use pc_store::Store;
+use std::alloc::Global;
+
+/// How many rules have their sets in one store.
+const RULES_OF_A_STORE: usize = 16;
 
 /// The words for which all rules hold. The sets that are made on the way are counted rule by rule.
 pub(crate) fn words_of_rules(
-    store: &mut Store,
+    alloc: Global,
+    domains: &[u32],
     variables: &[Variable],
     rules: &[Rule],
 ) -> Result<Conjunction, BuildFault>
-    requires domains { domains_of store.old ≡ value_counts variables.now }
+    requires domains { domains.now ≡ value_counts variables.now }
+    requires some { 0 < length domains.now }
+    requires few_variables { length domains.now ≤ MOST_VARIABLES }
+    requires sizes { All IsDomain domains.now }
     requires spelled { AreSpelled variables.now rules.now }
     requires few { length rules.now < 2 ^ 32 }
     ensures words { IfOk result (λ all. Holds (value_counts variables.now) all (λ word. list_all (holds variables.now word) rules.now)) }
     ensures small { IfOk result (λ _. list_any (list_any (is_too_large MOST_NODES (value_counts variables.now))) (sets_of variables.now (λ word. true) rules.now) ≡ false) }
     ensures fault { IfErr result (IsJoinFault variables.now rules.now) }
-    ensures keeps { Keeps store.old store.new }
 {
-    let mut joint = Joint::new(store)?;
+    let mut store = Store::new(alloc, domains)?;
+    let mut joint = Joint::new(&store)?;
     for place in 0..rules.len() {
-        joint = match join_rule(store, variables, joint, &rules[place]) {
+        store = store_for(alloc, domains, store, place)?;
+        joint = match join_rule(&mut store, variables, joint, &rules[place]) {
             Ok(joint) => joint,
             Err(PartFault::TooLarge { part }) => {
                 return Err(BuildFault::NodeLimit {
@@ -46,6 +57,22 @@ pub(crate) fn words_of_rules(
         };
     }
     Ok(joint.all)
+}
+
+/// The store for the sets of the rule at a place. It is a new one after so many rules, so that the memory of those before
+/// is given back.
+fn store_for(alloc: Global, domains: &[u32], store: Store, place: usize) -> Result<Store, NoMemory>
+    requires before { domains_of store ≡ domains.now }
+    requires some { 0 < length domains.now }
+    requires few { length domains.now ≤ MOST_VARIABLES }
+    requires sizes { All IsDomain domains.now }
+    ensures { IfOk result (λ store. domains_of store ≡ domains.now) }
+{
+    if place % RULES_OF_A_STORE == 0 {
+        Store::new(alloc, domains)
+    } else {
+        Ok(store)
+    }
 }
 
 /// The words among others for which one more rule holds. Its parts are made, and then these words are counted.

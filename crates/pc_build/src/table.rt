@@ -1,13 +1,15 @@
 //! The words that are in a table.
 
-ghost use Rattle.std.specs.Prelude.{◌≡◌, ◌<◌, ◌&&◌, ℕ, List, All, length, IfOk};
+ghost use Rattle.std.specs.Prelude.{◌≡◌, ◌<◌, ◌≤◌, ◌+◌, ◌&&◌, ℕ, List, All, drop, length, IfOk};
 ghost use Rattle.std.specs.List.{list_any};
 ghost use Rattle.pc_diagram.specs.Words.{is_word};
 ghost use Rattle.pc_store.specs.Sets.{domains_of, IsIdAt, has, Keeps};
 ghost use Rattle.pc_file.specs.Rule.{row_fits};
-ghost use Rattle.pc_build.specs.Demands.{some_meets};
+ghost use Rattle.pc_build.specs.Demands.{some_meets, Spans};
 
+use crate::chain::widen;
 use crate::demand::{Demand, demands_of};
+use crate::span::{Span, span_of};
 use crate::trie::meeting_some;
 use pc_base::{NoMemory, Sequence};
 use pc_store::{Id, Store};
@@ -25,24 +27,26 @@ pub(crate) fn rows_of_table(
     ensures set { IfOk result (λ id. (word : List ℕ) → has store.new id word ≡ (is_word (domains_of store.old) word && list_any (row_fits word variables.now) rows.now)) }
     ensures keeps { Keeps store.old store.new }
 {
-    let demands = demands_of_rows(store.allocator(), store.variables(), variables, rows)?;
-    meeting_some(store, 0, demands.as_slice())
+    let span = span_of(variables, store.variables());
+    let demands = demands_of_rows(store.allocator(), span, variables, rows)?;
+    let set = meeting_some(store, span.first, demands.as_slice())?;
+    widen(store, span.first, 0, set)
 }
 
-/// What each row asks of each of so many variables.
+/// What each row asks of each variable of a span.
 fn demands_of_rows(
     alloc: Global,
-    count: u32,
+    span: Span,
     variables: &[u32],
     rows: &[Sequence<u32>],
 ) -> Result<Sequence<Sequence<Demand>>, NoMemory>
-    requires { All (λ variable. variable < count) variables.now }
-    ensures { IfOk result (λ demands. (word : List ℕ) → length word ≡ count
-        → some_meets demands word ≡ list_any (row_fits word variables.now) rows.now) }
+    requires { Spans variables.now span }
+    ensures { IfOk result (λ demands. (word : List ℕ) → span.first + span.count ≤ length word
+        → some_meets demands (drop span.first word) ≡ list_any (row_fits word variables.now) rows.now) }
 {
     let mut demands = Sequence::with_capacity(alloc, rows.len())?;
     for row in rows {
-        demands.push(demands_of(alloc, count, variables, row.as_slice())?)?;
+        demands.push(demands_of(alloc, span, variables, row.as_slice())?)?;
     }
     Ok(demands)
 }

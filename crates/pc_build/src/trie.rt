@@ -22,10 +22,13 @@ pub(crate) fn meeting_some(
     ensures set { IfOk result (λ id. (word : List ℕ) → has store.new id word ≡ (is_word (drop layer (domains_of store.old)) word && some_meets rows.now word)) }
     ensures keeps { Keeps store.old store.new }
 {
-    if layer == store.variables() {
-        return Ok(end_of(store, layer, rows));
+    if ends(rows) {
+        return Ok(store.full(layer));
     }
     if rows.is_empty() {
+        return Ok(store.empty(layer));
+    }
+    if layer == store.variables() {
         return Ok(store.empty(layer));
     }
     if are_free(rows) {
@@ -39,19 +42,6 @@ pub(crate) fn meeting_some(
         children.push(meeting_some(store, layer + 1, rest.as_slice())?)?;
     }
     store.node(layer, children.as_slice())
-}
-
-/// The same past the last variable, where the empty word meets a row that demands no more.
-fn end_of(store: &Store, layer: u32, rows: &[Sequence<Demand>]) -> Id
-    requires { layer ≡ length (domains_of store.now) }
-    ensures is_id { IsIdAt store.now layer result }
-    ensures set { (word : List ℕ) → has store.now result word ≡ (is_word (drop layer (domains_of store.now)) word && some_meets rows.now word) }
-{
-    if ends(rows) {
-        store.full(layer)
-    } else {
-        store.empty(layer)
-    }
 }
 
 /// Whether one of the rows has no demand.

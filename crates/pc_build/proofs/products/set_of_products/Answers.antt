@@ -14,8 +14,8 @@ use Rattle.pc_build.proofs.JoinedLemmas.{denotes_same}
 use Rattle.pc_build.proofs.SmallLemmas.{products_small}
 use Rattle.pc_build.proofs.products.set_of_products.Goals as goal
 
-pub new-requires-clause-sizes : goal.new-requires-clause-sizes
-new-requires-clause-sizes c =
+pub words_of_rules-requires-clause-sizes : goal.words_of_rules-requires-clause-sizes
+words_of_rules-requires-clause-sizes c =
     subst (All IsDomain) (sym (c.as_slice.ensures ∙ c.in_ok-domains.ensures ∙ ap value_counts c.variables.ensures.variables)) (counts_are_domains _ c.args.file.now.variables c.variables.ensures.limits.each_variable)
 
 pub words_of_rules-requires-clause-spelled : goal.words_of_rules-requires-clause-spelled

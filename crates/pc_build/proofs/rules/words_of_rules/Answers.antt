@@ -1,5 +1,4 @@
-use Rattle.std.proofs.Common.{◌&&◌, ◌+◌, ◌++◌, ◌∷◌, [], ℕ, Bool, true, List, sym, subst, arith}
-use Rattle.pc_store.proofs.SetLemmas.{keeps_same, keeps_then}
+use Rattle.std.proofs.Common.{◌∙◌, ◌&&◌, ◌+◌, ◌++◌, ◌∷◌, [], ℕ, Bool, true, List, sym, subst, arith}
 use Rattle.pc_file.specs.Products.{value_counts}
 use Rattle.pc_file.specs.Rule.{holds}
 use Rattle.pc_diagram.specs.declared.limits.TheConstants.{MOST_NODES}
@@ -11,9 +10,12 @@ use Rattle.pc_build.proofs.rules.words_of_rules.Goals as goal
 
 pub loop-place-init : goal.loop-place-init
 loop-place-init c = record {
-  joined = joined_none c.args.variables.now c.args.rules.now c.in_ok-joint.joint.all (subst (λ d. Holds d c.in_ok-joint.joint.all (λ word. true)) c.requires.domains c.in_ok-joint.ensures);
-  keeps = keeps_same c.args.store.now;
+  joined = joined_none c.args.variables.now c.args.rules.now c.in_ok-joint.joint.all (subst (λ d. Holds d c.in_ok-joint.joint.all (λ word. true)) (c.in_ok-store.ensures ∙ c.requires.domains) c.in_ok-joint.ensures);
+  domains = c.in_ok-store.ensures;
 }
+
+pub join_rule-requires-clause-domains : goal.join_rule-requires-clause-domains
+join_rule-requires-clause-domains c = c.in_ok-store-2.ensures ∙ c.requires.domains
 
 pub join_rule-requires-clause-obeys : goal.join_rule-requires-clause-obeys
 join_rule-requires-clause-obeys c = c.loop-place.invariant.joined.holds_all.domains_are
@@ -37,5 +39,5 @@ loop-place-preserved c =
     let made = c.in-Ok.ensures.made joined.obeys joined.holds_all in
     record {
       joined = joined_more c.args.variables.now c.args.rules.now c.loop-place.place c.loop-place.joint.all c.index-rules-place.result joined (let low = c.loop-place-test.true in omega arith) c.index-rules-place.is made.0 c.in-Ok.joint.all made.1 (c.in-Ok.ensures.words joined.obeys joined.holds_all);
-      keeps = keeps_then c.args.store.now c.loop-place.store c.join_rule.new.store c.loop-place.invariant.keeps c.join_rule.ensures.keeps;
+      domains = c.join_rule.ensures.keeps.domains ∙ c.in_ok-store-2.ensures;
     }

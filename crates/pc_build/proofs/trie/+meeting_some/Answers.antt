@@ -7,9 +7,21 @@ use Rattle.pc_apply.proofs.ProductLemmas.{ok_then}
 use Rattle.pc_build.specs.declared.demand.Demand.{Demand}
 use Rattle.pc_build.specs.Chains.{leads_on}
 use Rattle.pc_build.specs.Demands.{some_meets}
+use Rattle.pc_build.proofs.WordLemmas.{and_true}
 use Rattle.pc_build.proofs.BranchLemmas.{branches_none, branches_more, branches_at}
-use Rattle.pc_build.proofs.TrieLemmas.{RestBranches, branches_words, free_words}
+use Rattle.pc_build.proofs.TrieLemmas.{RestBranches, branches_words, free_words, ends_all, ends_none}
 use Rattle.pc_build.proofs.trie.+meeting_some.Goals as goal
+
+pub returns-then-ends-clause-set : goal.returns-then-ends-clause-set
+returns-then-ends-clause-set t c = λ word.
+    c.full.ensures.set word
+    ∙ sym (and_true (is_word (drop c.args.layer (domains_of c.args.store.now)) word))
+    ∙ ap (λ b. is_word (drop c.args.layer (domains_of c.args.store.now)) word && b) (sym (ends_all c.args.rows.now (sym c.ends.ensures ∙ c.if-ends.true) word))
+
+pub returns-then-layer-variables-clause-set : goal.returns-then-layer-variables-clause-set
+returns-then-layer-variables-clause-set t c = λ word.
+    c.empty-then-layer-variables.ensures.set word
+    ∙ sym (ends_none c.args.rows.now c.args.layer (domains_of c.args.store.now) (let test = c.if-layer-variables.true in let count = c.variables.ensures.count in omega arith) (sym c.ends.ensures ∙ c.if-ends.false) word)
 
 pub meeting_some-requires : goal.meeting_some-requires
 meeting_some-requires t c =
