@@ -1,13 +1,17 @@
 -- Columns that grow or are cut, one entry after another.
-use Rattle.std.proofs.Common.{◌≡◌, ℕ, ◌+◌, ◌<◌, nat_lt, Bool, true, false, List, [], ◌∷◌, ◌++◌, length, get_or, slice_get, Some, refl, sym, ap, ◌∙◌, subst, arith}
+use Rattle.std.proofs.Common.{◌≡◌, ℕ, ◌+◌, ◌<◌, nat_lt, Bool, true, false, List, [], ◌∷◌, ◌++◌, All, drop, length, get_or, slice_get, Some, refl, sym, ap, ◌∙◌, subst, arith}
 use Rattle.std.proofs.lemmas.Bool.Decides.{nat_tests}
 use Rattle.std.proofs.lemmas.List.{get_or_append_left, get_or_push, get_or_past, length_push}
 use Rattle.std.proofs.lemmas.Option.{slice_get_within}
+use Rattle.pc_diagram.specs.Words.{is_word}
 use Rattle.pc_store.specs.declared.store.Store.{Store}
+use Rattle.pc_store.specs.Sets.{domains_of}
 use Rattle.pc_conjunction.specs.declared.layer.Layer.{Layer}
 use Rattle.pc_conjunction.specs.declared.pair.Pair.{Pair}
 use Rattle.pc_conjunction.specs.Meets.{IsBelow, Meets, MorePairs, in_node, GrownColumn, CutColumn}
 use Rattle.pc_conjunction.proofs.MeetLemmas.{meets_later, more_none, more_then}
+use Rattle.pc_conjunction.proofs.PlaceLemmas.{accepts_over}
+use Rattle.pc_conjunction.proofs.TargetLemmas.{meets_all}
 
 -- a column with the places of the first pairs
 pub record Growing (store : Store) (layer count value : ℕ) (pairs : List Pair) (done : ℕ) (first next : List Pair) (old new : List ℕ) : Type 0 where
@@ -112,3 +116,15 @@ cutting_all store layer count test done first next old new end h layers below = 
     by : (b : Bool) → nat_lt 0 done ≡ b → get_or old 0 0 ≡ 0 → get_or new 0 0 ≡ 0
     by true some zero_is = h.empty (grind (arith, nat_tests)) zero_is
     by false past zero_is = get_or_past new 0 0 (let w = h.width in grind (arith, nat_tests))
+
+-- a column stays where its places go on in all words
+pub cut_by_all : (store : Store) (layer count : ℕ) (test : List ℕ → Bool) (next : List Pair) (column : List ℕ) → ((word : List ℕ) → test word ≡ is_word (drop layer (domains_of store)) word) → All (λ place. place < count) column →
+    (layers : List Layer) → IsBelow store layer count layers → CutColumn store layer layers test next column column
+cut_by_all store layer count test next column all within layers below = record {
+  width = refl;
+  empty = λ zero_is. zero_is;
+  met = λ place lt.
+      meets_all store layer layers next (get_or column place 0) test
+      (let one = within place 0 lt in let n = below.count_is in omega arith)
+      (λ word there. all word ∙ ap (λ d. is_word d word) (sym below.domains_are) ∙ accepts_over layers below.layered (get_or column place 0) word there);
+}

@@ -40,7 +40,8 @@ pub(crate) fn add_entries(
     Ok(())
 }
 
-/// The same entries, but that each goes on in a set of the next layer, which has so many places.
+/// The same entries, but that each goes on in a set of the next layer, which has so many places. They stay as they are
+/// where that set is the one of all words.
 pub(crate) fn cut_entries(
     column: &[u32],
     store: &Store,
@@ -55,6 +56,10 @@ pub(crate) fn cut_entries(
     ensures cut { IfOk result (λ cut. (layers : List Layer) → IsBelow store.now layer count layers → CutColumn store.now layer layers (λ word. has store.now (id_at layer node) word) next.new.keys column.now cut) }
     ensures next { OnOk result (MorePairs store.now layer count next.old.keys next.new.keys) }
 {
+    if store.same_set(node.at(layer), store.full(layer)) {
+        let whole = Sequence::from_slice(store.allocator(), column)?;
+        return Ok(whole);
+    }
     let mut cut = Sequence::with_capacity(store.allocator(), column.len())?;
     for place in column {
         let pair = Pair {
