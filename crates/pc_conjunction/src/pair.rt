@@ -7,7 +7,7 @@ ghost use Rattle.pc_conjunction.specs.Meets.{IsBelow, Meets, MorePairs, in_node}
 
 use indexmap::IndexSet;
 use pc_base::NoMemory;
-use pc_store::{Node, Store, number};
+use pc_store::{Node, Store};
 
 /// The place of each layer without words.
 pub(crate) const NO_WORDS: u32 = 0;
@@ -46,6 +46,8 @@ pub(crate) fn target(
         return Ok(pair.place);
     }
     let (place, _) = pairs.insert_full(pair)?;
-    let target = number(place)?.checked_add(count).ok_or(NoMemory)?;
-    Ok(target)
+    if place > (u32::MAX - count) as usize {
+        return Err(NoMemory);
+    }
+    Ok(place as u32 + count)
 }

@@ -32,8 +32,7 @@ pub returns-clause-meets : goal.returns-clause-meets
 returns-clause-meets c = λ layers below.
     let stored = c.in_ok-place.ensures.stored in
     let at : slice_get c.insert_full.new.self.keys c.in_ok-place.place ≡ Some c.args.pair = stored.1 ∙ ap Some (sym (same_pair-is c.args.pair stored.0 stored.2)) in
-    let is : c.in_ok-target.target ≡ place_count layers + c.in_ok-place.place = (let n = below.count_is in let k = c.in_ok-number.ensures in grind (arith, common_steps, n, k)) in
-    meets_pair c.args.store.now c.args.layer layers c.insert_full.new.self.keys c.args.pair c.in_ok-place.place c.in_ok-target.target at is
+    meets_pair c.args.store.now c.args.layer layers c.insert_full.new.self.keys c.args.pair c.in_ok-place.place _ at (let n = below.count_is in omega arith)
 
 pub returns-clause-pairs : goal.returns-clause-pairs
 returns-clause-pairs c =
