@@ -1,6 +1,5 @@
-use Rattle.std.proofs.Common.{◌≡◌, ◌<◌, ◌+◌, ◌∙◌, Some, inl, inr, sym, ap, subst, arith, length, slice_get}
+use Rattle.std.proofs.Common.{◌≡◌, ◌<◌, ◌∙◌, Some, inl, inr, sym, ap, subst, arith, length, slice_get}
 use Rattle.std.proofs.lemmas.Bool.{both_ways}
-use Rattle.std.proofs.lemmas.Grind.{common_steps}
 use Rattle.pc_diagram.specs.Words.{is_word}
 use Rattle.pc_store.specs.Sets.{domains_of, has, IsIdAt}
 use Rattle.pc_conjunction.specs.Places.{place_count}
