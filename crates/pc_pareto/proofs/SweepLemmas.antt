@@ -1,13 +1,13 @@
 -- What is swept from items in order is their front.
-use Rattle.std.proofs.Common.{◌≡◌, ℤ, ◌<ℤ◌, ◌≤ℤ◌, List, [], ◌∷◌, map, Option, None, Some, true, false, Contains, ◌⊎◌, inl, inr, refl, arith}
+use Rattle.std.proofs.Common.{◌≡◌, ℤ, ◌<ℤ◌, ◌≤ℤ◌, List, [], ◌∷◌, map, Option, None, Some, Bool, true, false, not, cond, Contains, ◌⊎◌, inl, inr, refl, sym, ap, ◌∙◌, subst, arith}
 use Rattle.std.specs.Prelude.{int_lt}
-use Rattle.std.specs.List.{AllByRecursion}
+use Rattle.std.specs.List.{AllByRecursion, dedup, dedup_from}
 use Rattle.std.proofs.lemmas.Bool.{cond_both}
 use Rattle.std.proofs.lemmas.Int.{ints}
 use Rattle.std.proofs.lemmas.List.Elements.{All-from_recursion}
 use Rattle.pc_pareto.specs.declared.front_item.FrontItem.{FrontItem}
 use Rattle.pc_pareto.specs.Front.{Falls}
-use Rattle.pc_pareto.specs.Items.{pair_of, precedes, is_below, swept, IsCovered, IsFrontOf}
+use Rattle.pc_pareto.specs.Items.{pair_of, precedes, is_below, is_past, swept, IsCovered, IsFrontOf}
 use Rattle.pc_pareto.proofs.ItemLemmas.{covers_itself, covers_later, first_rises, contains_head, contains_tail, all_weaker, all_both, all_among, all_map}
 
 -- no item comes before an earlier one
@@ -79,3 +79,20 @@ swept_front items h =
     sure : (x : FrontItem) → (true ≡ false) ⊎ IsCovered (swept None items) x → IsCovered (swept None items) x
     sure x (inl e) = absurd (cc)
     sure x (inr c) = c
+
+deduped_from : (kept : FrontItem) (items : List FrontItem) → dedup_from is_past kept items ≡ kept ∷ swept (Some kept.second) items
+deduped_from kept [] = refl
+deduped_from kept (item ∷ items) = by (int_lt item.second kept.second) (deduped_from item items) (deduped_from kept items)
+  where
+    by : (b : Bool) → dedup_from is_past item items ≡ item ∷ swept (Some item.second) items → dedup_from is_past kept items ≡ kept ∷ swept (Some kept.second) items
+        → cond (not b) (dedup_from is_past kept items) (kept ∷ dedup_from is_past item items) ≡ kept ∷ cond b (item ∷ swept (Some item.second) items) (swept (Some kept.second) items)
+    by true stays past = ap (λ l. kept ∷ l) stays
+    by false stays past = past
+
+deduped : (items : List FrontItem) → dedup is_past items ≡ swept None items
+deduped [] = refl
+deduped (item ∷ items) = deduped_from item items
+
+-- what stays of items in order is their front
+pub deduped_front : (items kept : List FrontItem) → InOrder items → kept ≡ dedup is_past items → IsFrontOf items kept
+deduped_front items kept h e = subst (IsFrontOf items) (sym (e ∙ deduped items)) (swept_front items h)

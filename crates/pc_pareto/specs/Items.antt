@@ -27,6 +27,10 @@ abbrev pub is_below : Option ℤ → ℤ → Bool
 is_below None second = true
 is_below (Some least) second = int_lt second least
 
+-- the second cost of an item isn't below that of another
+abbrev pub is_past : FrontItem → FrontItem → Bool
+is_past item kept = not (int_lt item.second kept.second)
+
 -- of items in order, those whose second cost is below all before it
 abbrev pub swept : Option ℤ → List FrontItem → List FrontItem
 swept least [] = []

@@ -10,7 +10,7 @@ ghost use Rattle.pc_pareto.specs.Items.{covers, IsFrontOf, IsFrontOfOffered};
 use crate::back::Back;
 use crate::front_item::FrontItem;
 use crate::number::count_below;
-use crate::sweep::push_front;
+use crate::sweep::keep_front;
 use pc_base::NoMemory;
 use std::alloc::Global;
 use std::marker::Model;
@@ -43,14 +43,12 @@ impl Front {
     }
 
     /// The front of items, in no more room than it needs.
-    pub(crate) fn of(alloc: Global, mut offered: Vec<FrontItem>) -> Result<Front, NoMemory>
+    pub(crate) fn of(mut offered: Vec<FrontItem>) -> Result<Front, NoMemory>
         ensures { IfOk result (λ front. IsFrontOf offered.items front) }
     {
-        let mut kept = Vec::new(alloc);
-        push_front(&mut kept, &mut offered)?;
-        Ok(Front {
-            items: Vec::from_slice(alloc, kept.as_slice())?,
-        })
+        keep_front(&mut offered)?;
+        offered.shrink_to_fit();
+        Ok(Front { items: offered })
     }
 
     pub(crate) fn of_items(items: Vec<FrontItem>) -> Front
@@ -105,9 +103,8 @@ impl Front {
         if last_is_needless(offered.as_slice()) {
             return Ok(());
         }
-        let mut front = Vec::new(alloc);
-        push_front(&mut front, &mut offered)?;
-        self.items = front;
+        keep_front(&mut offered)?;
+        self.items = offered;
         Ok(())
     }
 }

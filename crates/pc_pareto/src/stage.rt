@@ -16,7 +16,6 @@ use crate::front_fault::FrontFault;
 use crate::front_item::FrontItem;
 use crate::limits::MOST_LABELS;
 use crate::run::push_run;
-use crate::sweep::push_front;
 use pc_base::{NoMemory, Sequence};
 use pc_diagram::{CostPair, Side};
 use std::alloc::Global;
@@ -73,10 +72,21 @@ pub(crate) fn node_front(
     requires scale { IsScaleWithin side scale }
     ensures { IfOk result (λ front. IsFrontOf (candidates side scale row.now before.now arrivals.now) front) }
 {
-    let mut offered = Vec::new(alloc);
+    let mut offered = Vec::with_capacity(alloc, room_of(before, arrivals))?;
     for arrival in arrivals {
         let items = before[arrival.node as usize].as_slice();
         push_run(&mut offered, side, scale, row, *arrival, items)?;
     }
-    Front::of(alloc, offered)
+    Front::of(offered)
+}
+
+/// How many items come along edges, all in all.
+fn room_of(before: &[Front], arrivals: &[Arrival]) -> usize
+    requires { All (λ arrival. arrival.node < length before.now) arrivals.now }
+{
+    let mut room = 0usize;
+    for arrival in arrivals {
+        room = room.saturating_add(before[arrival.node as usize].as_slice().len());
+    }
+    room
 }

@@ -1,39 +1,24 @@
-//! Fronts of items in order.
+//! Fronts of items, in the place of these.
 
-ghost use Rattle.std.specs.Prelude.{◌≡◌, ◌++◌, None, OnOk};
-ghost use Rattle.pc_pareto.specs.Items.{is_below, swept, IsFrontOf};
-ghost use Rattle.pc_pareto.specs.Lists.{HasMore};
+ghost use Rattle.std.specs.Prelude.{◌≡◌, OnOk};
+ghost use Rattle.pc_pareto.specs.Items.{IsFrontOf, is_past};
 
 use crate::front_item::FrontItem;
 use pc_base::NoMemory;
 
-/// Puts at the end those of the items whose second cost is below all before it: the front of items that are in order.
-pub(crate) fn push_swept(kept: &mut Vec<FrontItem>, items: &[FrontItem]) -> Result<(), NoMemory>
-    ensures { OnOk result (kept.new.items ≡ kept.old.items ++ swept None items.now) }
+/// Leaves of the items their front. Want of memory may leave them in another order.
+pub(crate) fn keep_front(items: &mut Vec<FrontItem>) -> Result<(), NoMemory>
+    ensures { OnOk result (IsFrontOf items.old.items items.new.items) }
 {
-    let mut least = None;
-    for item in items {
-        if is_below(least, item.second) {
-            kept.push(*item)?;
-            least = Some(item.second);
-        }
-    }
+    items.sort_by_key(|item| (item.first, item.second, item.back.rank))?;
+    // Of items in order, one stays where its second cost is below that of the last one that stays.
+    items.dedup_by(|item, kept| is_past(item, kept));
     Ok(())
 }
 
-fn is_below(least: Option<i64>, second: i64) -> bool
-    ensures { result ≡ is_below least second }
+/// Whether the second cost of an item isn't below that of another.
+fn is_past(item: &FrontItem, kept: &FrontItem) -> bool
+    ensures { result ≡ is_past item.now kept.now }
 {
-    least.is_none_or(|least| second < least)
-}
-
-/// Puts the front of items at the end. The items may end in another order.
-pub(crate) fn push_front(
-    kept: &mut Vec<FrontItem>,
-    items: &mut Vec<FrontItem>,
-) -> Result<(), NoMemory>
-    ensures { OnOk result (HasMore (IsFrontOf items.old.items) kept.old.items kept.new.items) }
-{
-    items.sort_by_key(|item| (item.first, item.second, item.back.rank))?;
-    push_swept(kept, items)
+    item.second >= kept.second
 }

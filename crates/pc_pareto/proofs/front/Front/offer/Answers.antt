@@ -17,7 +17,6 @@ returns-clause-ok c = λ offered h.
     let items : c.as_slice.result.now ≡ c.args.self.now = c.as_slice.ensures.value ∙ c.self.view_is in
     let before : c.in_ok-offered.offered.items ≡ c.args.self.now ++ item ∷ [] = c.in_ok-offered.ensures ∙ ap (λ (xs : List FrontItem). xs ++ item ∷ []) items in
     let all : c.as_slice-2.result.now ≡ c.args.self.now ++ item ∷ [] = c.as_slice-2.ensures.value ∙ before in
-    let more = c.in_ok-push_front.ensures in
-    let front : IsFrontOf (c.args.self.now ++ item ∷ []) c.push_front.new.kept.items =
-    subst (λ (xs : List FrontItem). IsFrontOf xs c.push_front.new.kept.items) before (subst (IsFrontOf c.in_ok-offered.offered.items) (sym (more.1 ∙ ap (λ (xs : List FrontItem). xs ++ more.0) c.new-front.ensures.items)) more.2) in
-    offer_taken offered c.args.self.now item h (sym (c.last_is_needless.ensures c.args.self.now item all) ∙ c.if-last_is_needless.false) c.push_front.new.kept.items front
+    let kept = c.keep_front.new.items.items in
+    let front : IsFrontOf (c.args.self.now ++ item ∷ []) kept = subst (λ (xs : List FrontItem). IsFrontOf xs kept) before c.in_ok-keep_front.ensures in
+    offer_taken offered c.args.self.now item h (sym (c.last_is_needless.ensures c.args.self.now item all) ∙ c.if-last_is_needless.false) kept front
