@@ -21,13 +21,15 @@ use Rattle.pc_pareto.specs.FrontsView.{IsFrontsOf, distance_of, side_of, stages_
 use Rattle.pc_pareto.specs.Items.{pair_of}
 use Rattle.pc_domains.specs.declared.front_way.FrontWay.{FrontWay}
 use Rattle.pc_domains.specs.FrontPaths.{kept_by_fronts, kept_item}
+use Rattle.pc_domains.specs.ListedWays.{TellsByFronts}
 use Rattle.pc_domains.specs.FrontWays.{IsLeastFrontWay, IsOpenWay, front_of, word_of_way}
 use Rattle.pc_domains.specs.Joins.{is_less, joined_at}
 use Rattle.pc_domains.specs.Orders.{IsAtMost}
 use Rattle.pc_domains.specs.Sides.{AreSides, IsAllowedWay, IsAsked, IsLeastWay, listed_of, price_of}
 use Rattle.pc_domains.specs.Ways.{Kept, Way, joined_word}
 use Rattle.pc_domains.proofs.FrontSides.{fronts_are_sides}
-use Rattle.pc_domains.proofs.JoinableLemmas.{distance_is}
+use Rattle.pc_domains.proofs.JoinableLemmas.{distance_is, joinable}
+use Rattle.pc_domains.proofs.RangeLemmas.{edge_inside}
 use Rattle.pc_domains.proofs.ListedLemmas.{least_listed, none_allowed}
 use Rattle.pc_domains.proofs.OrderLemmas.{at_most_adds_up, at_most_downward}
 use Rattle.pc_domains.proofs.WayLemmas.{way_costs}
@@ -161,7 +163,17 @@ module _ (raw : RawDiagram) (costs : List (List CostPair)) (choices : List Choic
       (kept_by_fronts Heads (stages_of heads) (distance_of heads variable)) (kept_by_fronts Tails (stages_of tails) (distance_of tails (variable + 1))) sides allowed
       (λ way fits. none way.node way.target way.head_place way.tail_place (opens way fits))
 
-  -- it is listed exactly where there is a least way
-  pub front_decides : (o : Option FrontWay) → IsLeastFrontWay raw variable value heads tails (price_of costs variable value) bounds (get_or raw.sizes variable 0) o → is_some o ≡ is_some (listed_of raw costs choices bounds variable value)
-  front_decides None least = ap is_some (sym (front_unlisted least))
-  front_decides (Some way) least = ap is_some (sym (front_listed way least))
+  -- a least way that the bounds allow tells what is listed, and that nothing is where there is none
+  pub front_tells : (o : Option FrontWay) → IsLeastFrontWay raw variable value heads tails (price_of costs variable value) bounds (get_or raw.sizes variable 0) o → TellsByFronts (listed_of raw costs choices bounds variable value) heads tails variable value o
+  front_tells None least = sym (front_unlisted least)
+  front_tells (Some way) least =
+      let are = joinable raw costs choices variable heads tails asked.canonical asked.costs_of asked.variable_inside before after in
+      record {
+        inside = record {
+          node = omega (arith, are.before.nodes, least.own.inside);
+          target = omega (arith, are.after.nodes, edge_inside raw asked.canonical variable way.node value way.target asked.variable_inside least.own.leads);
+          head = least.own.head_inside;
+          tail = least.own.tail_inside;
+        };
+        is = front_item way least way.join.ranked.pair.first way.join.ranked.pair.second (word_of_way heads tails variable value way) refl refl refl;
+      }

@@ -18,7 +18,8 @@ use Rattle.pc_labels.specs.Labels.{AreHeads, AreTails}
 use Rattle.pc_domains.specs.declared.label_way.LabelWay.{LabelWay}
 use Rattle.pc_domains.specs.Joins.{IsSumPair, is_less}
 use Rattle.pc_domains.specs.LabelPaths.{kept_by_labels}
-use Rattle.pc_domains.specs.LabelWays.{AreLinkable, is_allowed_way, IsLeastLabelWay, linked, linked_at, linked_over, word_of_label_way}
+use Rattle.pc_domains.specs.ListedWays.{IsListedByLabels}
+use Rattle.pc_domains.specs.LabelWays.{AreLinkable, IsLeastLabelWay, linked, linked_at, linked_over, word_of_label_way}
 use Rattle.pc_domains.specs.Orders.{IsNoDearer}
 use Rattle.pc_domains.specs.Sides.{AreSides, IsAsked, IsLeastWay, listed_of, price_of}
 use Rattle.pc_domains.specs.Ways.{Way, joined_pair, joined_word}
@@ -162,11 +163,11 @@ module _ (raw : RawDiagram) (costs : List (List CostPair)) (choices : List Choic
           ∙ ap (λ w. Some (record { value = value; first = cost costs First (word_of_label_way before after variable value best); second = cost costs Second (word_of_label_way before after variable value best); word = w })) is
           ∙ sym label_listed
 
-  -- it is listed exactly where there is a least way that the bound allows
-  pub label_decides : (o : Option LabelWay) → IsLeastLabelWay raw variable value before after (price_of costs variable value) (get_or raw.sizes variable 0) o → is_allowed_way bounds o ≡ is_some (listed_of raw costs choices bounds variable value)
-  label_decides None least = ap is_some (sym (label_unlinked least))
-  label_decides (Some way) least = by (allows_pair bounds way.ranked.pair) refl
-    where
-      by : (b : Bool) → allows_pair bounds way.ranked.pair ≡ b → b ≡ is_some (listed_of raw costs choices bounds variable value)
-      by true e = ap is_some (label_item way least e way.ranked.pair.first way.ranked.pair.second (word_of_label_way before after variable value way) refl refl refl)
-      by false e = ap is_some (sym (label_past way least e))
+  -- a least way that the bound allows tells what is listed
+  pub label_tells : (way : LabelWay) → IsLeastLabelWay raw variable value before after (price_of costs variable value) (get_or raw.sizes variable 0) (Some way) → allows_pair bounds way.ranked.pair ≡ true
+      → IsListedByLabels (listed_of raw costs choices bounds variable value) before after variable value way
+  label_tells way least fits = record {
+    head = (both_kept way least).0;
+    tail = (both_kept way least).1;
+    is = label_item way least fits way.ranked.pair.first way.ranked.pair.second (word_of_label_way before after variable value way) refl refl refl;
+  }

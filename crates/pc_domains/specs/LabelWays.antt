@@ -58,8 +58,3 @@ IsLeastLabelWay raw variable value heads tails price count (Some way) = IsLeastL
 -- the word of a way: the paths of its nodes, with the value between them
 abbrev pub word_of_label_way : KeptPaths → KeptPaths → ℕ → ℕ → LabelWay → List ℕ
 word_of_label_way heads tails variable value way = path_of (kept_at heads variable way.node) ++ value ∷ path_of (kept_at tails (variable + 1) way.target)
-
--- there is a way, and bounds allow its costs
-abbrev pub is_allowed_way : Bounds → Option LabelWay → Bool
-is_allowed_way bounds None = false
-is_allowed_way bounds (Some way) = allows_pair bounds way.ranked.pair

@@ -8,6 +8,7 @@ pub mod LabelLimits
 pub mod LabelPaths
 pub mod LabelWays
 pub mod Least
+pub mod ListedWays
 pub mod Orders
 pub mod Sides
 pub mod Slots

@@ -16,8 +16,8 @@ ghost use Rattle.pc_domains.specs.Slots.{slots_before, slots_of};
 use crate::asked::kept_of;
 use crate::board_fault::BoardFault;
 use crate::ends::Ends;
-use crate::front_listing::{is_listed_by_fronts, listed_by_fronts};
-use crate::label_listing::{is_listed_by_labels, listed_by_labels};
+use crate::front_listing::{item_of_front_way, listed_front_way};
+use crate::label_listing::{item_of_label_way, listed_label_way};
 use pc_base::{NoMemory, Sequence};
 use pc_diagram::{Bounds, Choices, Costs, Diagram, Listed, Listing, Side, Steps};
 use std::alloc::Global;
@@ -198,34 +198,27 @@ impl Board {
         ensures listed { IfOk result (λ item. item ≡ listed_of diagram.now costs.now self.now.choices self.now.bounds variable value) }
         ensures steps { steps.new ≤ steps.old + slice_index diagram.now.sizes variable }
     {
+        let (choices, bounds) = (&self.choices, &self.bounds);
         match (&self.heads, &self.tails) {
             (Ends::Least(heads), Ends::Least(tails)) => {
-                listed_by_labels(
-                    alloc,
-                    diagram,
-                    costs,
-                    &self.choices,
-                    &self.bounds,
-                    heads,
-                    tails,
-                    variable,
-                    value,
-                    steps,
-                )
+                match listed_label_way(
+                    diagram, costs, choices, bounds, heads, tails, variable, value, steps,
+                ) {
+                    Some(way) => Ok(Some(item_of_label_way(
+                        alloc, heads, tails, variable, value, &way,
+                    )?)),
+                    None => Ok(None),
+                }
             }
             (Ends::Pairs(heads), Ends::Pairs(tails)) => {
-                listed_by_fronts(
-                    alloc,
-                    diagram,
-                    costs,
-                    &self.choices,
-                    &self.bounds,
-                    heads,
-                    tails,
-                    variable,
-                    value,
-                    steps,
-                )
+                match listed_front_way(
+                    diagram, costs, choices, bounds, heads, tails, variable, value, steps,
+                ) {
+                    Some(way) => Ok(Some(item_of_front_way(
+                        alloc, heads, tails, variable, value, &way,
+                    )?)),
+                    None => Ok(None),
+                }
             }
             _ => Ok(None),
         }
@@ -246,33 +239,16 @@ impl Board {
         ensures listed { result ≡ is_some (listed_of diagram.now costs.now self.now.choices self.now.bounds variable value) }
         ensures steps { steps.new ≤ steps.old + slice_index diagram.now.sizes variable }
     {
+        let (choices, bounds) = (&self.choices, &self.bounds);
         match (&self.heads, &self.tails) {
-            (Ends::Least(heads), Ends::Least(tails)) => {
-                is_listed_by_labels(
-                    diagram,
-                    costs,
-                    &self.choices,
-                    &self.bounds,
-                    heads,
-                    tails,
-                    variable,
-                    value,
-                    steps,
-                )
-            }
-            (Ends::Pairs(heads), Ends::Pairs(tails)) => {
-                is_listed_by_fronts(
-                    diagram,
-                    costs,
-                    &self.choices,
-                    &self.bounds,
-                    heads,
-                    tails,
-                    variable,
-                    value,
-                    steps,
-                )
-            }
+            (Ends::Least(heads), Ends::Least(tails)) => listed_label_way(
+                diagram, costs, choices, bounds, heads, tails, variable, value, steps,
+            )
+            .is_some(),
+            (Ends::Pairs(heads), Ends::Pairs(tails)) => listed_front_way(
+                diagram, costs, choices, bounds, heads, tails, variable, value, steps,
+            )
+            .is_some(),
             _ => false,
         }
     }

@@ -1,12 +1,13 @@
 //! What is listed of a value, by fronts.
 
-ghost use Rattle.std.specs.Prelude.{◌≡◌, ◌<◌, ◌≤◌, ◌+◌, [], length, slice_index, slice_index_or, is_some, IfOk};
+ghost use Rattle.std.specs.Prelude.{◌≡◌, ◌<◌, ◌≤◌, ◌+◌, length, slice_index, IfOk};
 ghost use Rattle.pc_diagram.specs.declared.limits.TheConstants.{MOST_VARIABLES};
 ghost use Rattle.pc_diagram.specs.declared.side.Side.TheVariants.{Heads, Tails};
 ghost use Rattle.pc_diagram.specs.NodePaths.{AreCostsOf};
-ghost use Rattle.pc_domains.specs.FrontWays.{front_of, word_of_way};
+ghost use Rattle.pc_domains.specs.FrontWays.{word_of_way};
+ghost use Rattle.pc_domains.specs.ListedWays.{IsInside, TellsByFronts, item_of_front_way};
 ghost use Rattle.pc_domains.specs.Sides.{IsAsked, listed_of};
-ghost use Rattle.pc_pareto.specs.FrontsView.{IsFrontsOf, distance_of, stages_of};
+ghost use Rattle.pc_pareto.specs.FrontsView.{IsFrontsOf, stages_of};
 
 use crate::asked::{allows_value, price_of};
 use crate::front_way::{FrontWay, least_front_way};
@@ -16,78 +17,62 @@ use pc_pareto::Fronts;
 use std::alloc::Global;
 use std::sync::ledger::Ledger;
 
-/// What is listed of a value, if it is listed, by the fronts of both ends with the same choices: the cheapest word of the
-/// diagram that takes it, agrees with the choices and keeps the bounds, with its costs.
+/// The way whose word is listed of a value, by the fronts of both ends with the same choices, whatever the bounds are; none where
+/// the value isn't listed. It takes no memory.
+pub(crate) fn listed_front_way<L: Ledger>(
+    diagram: &Diagram,
+    costs: &Costs,
+    choices: &Choices,
+    bounds: &Bounds,
+    heads: &Fronts,
+    tails: &Fronts,
+    variable: u32,
+    value: u32,
+    steps: &mut Steps<L>,
+) -> Option<FrontWay>
+    requires variable { variable < length diagram.now.domains }
+    requires value { value < slice_index diagram.now.domains variable }
+    requires costs { AreCostsOf diagram.now.domains costs.now }
+    requires asked { IsAsked diagram.now costs.now choices.now variable value }
+    requires heads { IsFrontsOf Heads diagram.now costs.now choices.now heads.now }
+    requires tails { IsFrontsOf Tails diagram.now costs.now choices.now tails.now }
+    ensures tells { TellsByFronts (listed_of diagram.now costs.now choices.now bounds.now variable value) heads.now tails.now variable value result }
+    ensures steps { steps.new ≤ steps.old + slice_index diagram.now.sizes variable }
+{
+    if !allows_value(choices, variable, value) {
+        return None;
+    }
+    let price = price_of(costs, variable, value);
+    least_front_way(diagram, heads, tails, price, bounds, variable, value, steps)
+}
+
+/// A value with the costs and the word of a way through it.
 ///
 /// # Errors
 ///
 /// Want of memory.
-pub fn listed_by_fronts<L: Ledger>(
+pub(crate) fn item_of_front_way(
     alloc: Global,
-    diagram: &Diagram,
-    costs: &Costs,
-    choices: &Choices,
-    bounds: &Bounds,
     heads: &Fronts,
     tails: &Fronts,
     variable: u32,
     value: u32,
-    steps: &mut Steps<L>,
-) -> Result<Option<Listed>, NoMemory>
-    requires variable { variable < length diagram.now.domains }
-    requires value { value < slice_index diagram.now.domains variable }
-    requires costs { AreCostsOf diagram.now.domains costs.now }
-    requires asked { IsAsked diagram.now costs.now choices.now variable value }
-    requires heads { IsFrontsOf Heads diagram.now costs.now choices.now heads.now }
-    requires tails { IsFrontsOf Tails diagram.now costs.now choices.now tails.now }
-    ensures listed { IfOk result (λ item. item ≡ listed_of diagram.now costs.now choices.now bounds.now variable value) }
-    ensures steps { steps.new ≤ steps.old + slice_index diagram.now.sizes variable }
+    way: &FrontWay,
+) -> Result<Listed, NoMemory>
+    requires few { variable < MOST_VARIABLES }
+    requires head_layer { variable < length (stages_of heads.now) }
+    requires tail_layer { variable + 1 < length (stages_of tails.now) }
+    requires way { IsInside heads.now tails.now variable way.now }
+    ensures { IfOk result (λ item. item ≡ item_of_front_way heads.now tails.now variable value way.now) }
 {
-    if !allows_value(choices, variable, value) {
-        return Ok(None);
-    }
-    let price = price_of(costs, variable, value);
-    match least_front_way(diagram, heads, tails, price, bounds, variable, value, steps) {
-        Some(way) => {
-            let word = word_of_way(alloc, heads, tails, variable, value, &way)?;
-            let pair = way.join.ranked.pair;
-            Ok(Some(Listed {
-                value,
-                first: pair.first,
-                second: pair.second,
-                word,
-            }))
-        }
-        None => Ok(None),
-    }
-}
-
-/// Whether a value is listed, by the same. It takes no memory.
-pub fn is_listed_by_fronts<L: Ledger>(
-    diagram: &Diagram,
-    costs: &Costs,
-    choices: &Choices,
-    bounds: &Bounds,
-    heads: &Fronts,
-    tails: &Fronts,
-    variable: u32,
-    value: u32,
-    steps: &mut Steps<L>,
-) -> bool
-    requires variable { variable < length diagram.now.domains }
-    requires value { value < slice_index diagram.now.domains variable }
-    requires costs { AreCostsOf diagram.now.domains costs.now }
-    requires asked { IsAsked diagram.now costs.now choices.now variable value }
-    requires heads { IsFrontsOf Heads diagram.now costs.now choices.now heads.now }
-    requires tails { IsFrontsOf Tails diagram.now costs.now choices.now tails.now }
-    ensures listed { result ≡ is_some (listed_of diagram.now costs.now choices.now bounds.now variable value) }
-    ensures steps { steps.new ≤ steps.old + slice_index diagram.now.sizes variable }
-{
-    if !allows_value(choices, variable, value) {
-        return false;
-    }
-    let price = price_of(costs, variable, value);
-    least_front_way(diagram, heads, tails, price, bounds, variable, value, steps).is_some()
+    let word = word_of_way(alloc, heads, tails, variable, value, way)?;
+    let pair = way.join.ranked.pair;
+    Ok(Listed {
+        value,
+        first: pair.first,
+        second: pair.second,
+        word,
+    })
 }
 
 /// The word of a way.
@@ -102,10 +87,7 @@ fn word_of_way(
     requires few { variable < MOST_VARIABLES }
     requires head_layer { variable < length (stages_of heads.now) }
     requires tail_layer { variable + 1 < length (stages_of tails.now) }
-    requires node { way.now.node < length (slice_index_or (stages_of heads.now) (distance_of heads.now variable) []) }
-    requires target { way.now.target < length (slice_index_or (stages_of tails.now) (distance_of tails.now (variable + 1)) []) }
-    requires head { way.now.join.head < length (front_of heads.now variable way.now.node) }
-    requires tail { way.now.join.tail < length (front_of tails.now (variable + 1) way.now.target) }
+    requires way { IsInside heads.now tails.now variable way.now }
     ensures { IfOk result (λ word. word ≡ word_of_way heads.now tails.now variable value way.now) }
 {
     let head = heads.path(alloc, variable, way.node, way.join.head as u64)?;

@@ -1,9 +1,10 @@
 //! What is listed of a value, by labels.
 
-ghost use Rattle.std.specs.Prelude.{◌≡◌, ◌<◌, ◌≤◌, ◌+◌, [], length, slice_index, slice_index_or, None, is_some, IfOk, IsSome};
+ghost use Rattle.std.specs.Prelude.{◌≡◌, ◌<◌, ◌≤◌, ◌+◌, length, slice_index, None, IfOk, IsSome};
 ghost use Rattle.pc_diagram.specs.declared.limits.TheConstants.{MOST_VARIABLES};
 ghost use Rattle.pc_diagram.specs.NodePaths.{AreCostsOf};
-ghost use Rattle.pc_domains.specs.LabelWays.{is_allowed_way, word_of_label_way};
+ghost use Rattle.pc_domains.specs.LabelWays.{word_of_label_way};
+ghost use Rattle.pc_domains.specs.ListedWays.{TellsByLabels, item_of_label_way};
 ghost use Rattle.pc_domains.specs.Sides.{IsAsked, listed_of};
 ghost use Rattle.pc_labels.specs.Kept.{kept_at};
 ghost use Rattle.pc_labels.specs.Labels.{AreHeads, AreTails};
@@ -16,92 +17,68 @@ use pc_labels::Labels;
 use std::alloc::Global;
 use std::sync::ledger::Ledger;
 
-/// What is listed of a value, if it is listed, by the labels of both ends with the same choices, where the second cost has no
-/// bound: the cheapest word of the diagram that takes it, agrees with the choices and keeps the bound, with its costs.
+/// The way whose word is listed of a value, by the labels of both ends with the same choices, where the second cost has no
+/// bound; none where the value isn't listed. It takes no memory.
+pub(crate) fn listed_label_way<L: Ledger>(
+    diagram: &Diagram,
+    costs: &Costs,
+    choices: &Choices,
+    bounds: &Bounds,
+    heads: &Labels,
+    tails: &Labels,
+    variable: u32,
+    value: u32,
+    steps: &mut Steps<L>,
+) -> Option<LabelWay>
+    requires variable { variable < length diagram.now.domains }
+    requires value { value < slice_index diagram.now.domains variable }
+    requires costs { AreCostsOf diagram.now.domains costs.now }
+    requires asked { IsAsked diagram.now costs.now choices.now variable value }
+    requires alone { bounds.now.second ≡ None }
+    requires heads { AreHeads diagram.now choices.now costs.now heads.now }
+    requires tails { AreTails diagram.now choices.now costs.now tails.now }
+    ensures tells { TellsByLabels (listed_of diagram.now costs.now choices.now bounds.now variable value) heads.now tails.now variable value result }
+    ensures steps { steps.new ≤ steps.old + slice_index diagram.now.sizes variable }
+{
+    if !allows_value(choices, variable, value) {
+        return None;
+    }
+    let price = price_of(costs, variable, value);
+    let Some(way) = least_label_way(diagram, heads, tails, price, variable, value, steps) else {
+        return None;
+    };
+    if !keeps(bounds, &way.ranked.pair) {
+        return None;
+    }
+    Some(way)
+}
+
+/// A value with the costs and the word of a way through it.
 ///
 /// # Errors
 ///
 /// Want of memory.
-pub fn listed_by_labels<L: Ledger>(
+pub(crate) fn item_of_label_way(
     alloc: Global,
-    diagram: &Diagram,
-    costs: &Costs,
-    choices: &Choices,
-    bounds: &Bounds,
     heads: &Labels,
     tails: &Labels,
     variable: u32,
     value: u32,
-    steps: &mut Steps<L>,
-) -> Result<Option<Listed>, NoMemory>
-    requires variable { variable < length diagram.now.domains }
-    requires value { value < slice_index diagram.now.domains variable }
-    requires costs { AreCostsOf diagram.now.domains costs.now }
-    requires asked { IsAsked diagram.now costs.now choices.now variable value }
-    requires alone { bounds.now.second ≡ None }
-    requires heads { AreHeads diagram.now choices.now costs.now heads.now }
-    requires tails { AreTails diagram.now choices.now costs.now tails.now }
-    ensures listed { IfOk result (λ item. item ≡ listed_of diagram.now costs.now choices.now bounds.now variable value) }
-    ensures steps { steps.new ≤ steps.old + slice_index diagram.now.sizes variable }
+    way: &LabelWay,
+) -> Result<Listed, NoMemory>
+    requires few { variable < MOST_VARIABLES }
+    requires head { IsSome (kept_at heads.now variable way.now.node) }
+    requires tail { IsSome (kept_at tails.now (variable + 1) way.now.target) }
+    ensures { IfOk result (λ item. item ≡ item_of_label_way heads.now tails.now variable value way.now) }
 {
-    if !allows_value(choices, variable, value) {
-        return Ok(None);
-    }
-    let price = price_of(costs, variable, value);
-    let Some(way) = least_label_way(diagram, heads, tails, price, variable, value, steps) else {
-        return Ok(None);
-    };
+    let word = word_of(alloc, heads, tails, variable, value, way)?;
     let pair = way.ranked.pair;
-    if !keeps(bounds, &pair) {
-        return Ok(None);
-    }
-    let word = word_of(alloc, heads, tails, variable, value, &way)?;
-    Ok(Some(Listed {
+    Ok(Listed {
         value,
         first: pair.first,
         second: pair.second,
         word,
-    }))
-}
-
-/// Whether a value is listed, by the same. It takes no memory.
-pub fn is_listed_by_labels<L: Ledger>(
-    diagram: &Diagram,
-    costs: &Costs,
-    choices: &Choices,
-    bounds: &Bounds,
-    heads: &Labels,
-    tails: &Labels,
-    variable: u32,
-    value: u32,
-    steps: &mut Steps<L>,
-) -> bool
-    requires variable { variable < length diagram.now.domains }
-    requires value { value < slice_index diagram.now.domains variable }
-    requires costs { AreCostsOf diagram.now.domains costs.now }
-    requires asked { IsAsked diagram.now costs.now choices.now variable value }
-    requires alone { bounds.now.second ≡ None }
-    requires heads { AreHeads diagram.now choices.now costs.now heads.now }
-    requires tails { AreTails diagram.now choices.now costs.now tails.now }
-    ensures listed { result ≡ is_some (listed_of diagram.now costs.now choices.now bounds.now variable value) }
-    ensures steps { steps.new ≤ steps.old + slice_index diagram.now.sizes variable }
-{
-    if !allows_value(choices, variable, value) {
-        return false;
-    }
-    let price = price_of(costs, variable, value);
-    let way = least_label_way(diagram, heads, tails, price, variable, value, steps);
-    is_allowed_way(bounds, &way)
-}
-
-/// Whether there is a way, and its costs keep the bounds that are set.
-fn is_allowed_way(bounds: &Bounds, way: &Option<LabelWay>) -> bool
-    ensures { result ≡ is_allowed_way bounds.now way.now }
-{
-    match way {
-        Some(way) => keeps(bounds, &way.ranked.pair),
-        None => false,
-    }
+    })
 }
 
 /// The word of a way.

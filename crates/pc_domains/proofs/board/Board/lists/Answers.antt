@@ -5,14 +5,14 @@ use Rattle.pc_domains.specs.Ends.{IsEndOf}
 use Rattle.pc_domains.proofs.EndLemmas.{fronts_of}
 use Rattle.pc_domains.proofs.board.Board.lists.Goals as goal
 
-pub is_listed_by_fronts-requires-clause-heads : goal.is_listed_by_fronts-requires-clause-heads
-is_listed_by_fronts-requires-clause-heads g c =
+pub listed_front_way-requires-clause-heads : goal.listed_front_way-requires-clause-heads
+listed_front_way-requires-clause-heads g c =
     let board = c.args.self.now in
     fronts_of Heads c.args.diagram.now c.args.costs.now board.choices board.bounds.second c.in-Pairs-Pairs.heads
     (subst (IsEndOf Heads c.args.diagram.now c.args.costs.now board.choices board.bounds.second) c.in-Pairs-Pairs.is-0 c.requires.board.heads)
 
-pub is_listed_by_fronts-requires-clause-tails : goal.is_listed_by_fronts-requires-clause-tails
-is_listed_by_fronts-requires-clause-tails g c =
+pub listed_front_way-requires-clause-tails : goal.listed_front_way-requires-clause-tails
+listed_front_way-requires-clause-tails g c =
     let board = c.args.self.now in
     fronts_of Tails c.args.diagram.now c.args.costs.now board.choices board.bounds.second c.in-Pairs-Pairs.tails
     (subst (IsEndOf Tails c.args.diagram.now c.args.costs.now board.choices board.bounds.second) c.in-Pairs-Pairs.is-1 c.requires.board.tails)
