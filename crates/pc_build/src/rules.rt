@@ -68,7 +68,7 @@ fn store_for(alloc: Global, domains: &[u32], store: Store, place: usize) -> Resu
     requires sizes { All IsDomain domains.now }
     ensures { IfOk result (λ store. domains_of store ≡ domains.now) }
 {
-    if place % RULES_OF_A_STORE == 0 {
+    if place > 0 && place % RULES_OF_A_STORE == 0 {
         Store::new(alloc, domains)
     } else {
         Ok(store)

@@ -1,5 +1,5 @@
 -- The nodes of a layer are as many as the different non-empty rests.
-use Rattle.std.proofs.Common.{◌≡◌, ℕ, zero, suc, ◌+◌, ◌*◌, ◌-◌, ◌/◌, ◌%◌, ◌<◌, ◌≤◌, nat_eq, nat_lt, Bool, true, false, cond, ◌&&◌, ◌||◌, List, [], ◌∷◌, ◌++◌, map, filter, length, take, drop, get_or, sum, Option, Some, None, refl, sym, ap, ◌∙◌, subst, arith}
+use Rattle.std.proofs.Common.{◌≡◌, ℕ, zero, suc, ◌+◌, ◌*◌, ◌-◌, ◌/◌, ◌%◌, ◌<◌, ◌≤◌, nat_eq, nat_lt, Bool, true, false, cond, ◌&&◌, ◌||◌, List, [], ◌∷◌, ◌++◌, map, filter, length, take, drop, get_or, sum, sum_by, not, ◌==◌, Option, Some, None, refl, sym, ap, ◌∙◌, subst, arith}
 use Rattle.std.specs.Cmp.Lexicographic.{pointwise, lists_equiv}
 use Rattle.std.specs.List.{list_any, range_with_len, IsDistinct, AllByRecursion}
 use Rattle.std.proofs.Math.Nat.{div-lt_iff_lt-mul}
@@ -15,10 +15,12 @@ use Rattle.pc_diagram.specs.Diagram.{IsShapedLevel, IsCanonicalLevel, IsCanonica
 use Rattle.pc_diagram.specs.DiagramFaults.{is_outside}
 use Rattle.pc_diagram.specs.Fitting.{is_number}
 use Rattle.pc_diagram.specs.Levels.{Level, levels, edge}
+use Rattle.pc_diagram.specs.NodePaths.{leads_to}
 use Rattle.pc_diagram.specs.Paths.{accepts}
-use Rattle.pc_diagram.specs.Rests.{rest, has_words, rest_count, size}
+use Rattle.pc_diagram.specs.Rests.{classes, different, has_words, rest, rest_count, size}
 use Rattle.pc_diagram.specs.Words.{is_word, all_words}
 use Rattle.pc_diagram.proofs.AnyLemmas.{one_at, passes_at}
+use Rattle.pc_diagram.proofs.DifferentLemmas.{among_different, different_among, different_by, different_distinct, same_sum}
 use Rattle.pc_diagram.proofs.EqualWords.{chain_from, domains-levels, accepts-is_word}
 use Rattle.pc_diagram.proofs.LevelLemmas.{drop-levels}
 use Rattle.pc_diagram.proofs.PathLemmas.{accepts-none, is_number-is}
@@ -98,6 +100,12 @@ same = pointwise (pointwise nat_eq)
 same_decides : (xs ys : List (List ℕ)) → (same xs ys ≡ true → xs ≡ ys) × (xs ≡ ys → same xs ys ≡ true)
 same_decides xs ys = slice_eq-Decides bytes_eq-Decides xs ys (same xs ys) refl
 
+same_is : (xs ys : List (List ℕ)) → same xs ys ≡ true → xs ≡ ys
+same_is xs ys = (same_decides xs ys).0
+
+same_itself : (xs : List (List ℕ)) → same xs xs ≡ true
+same_itself xs = (same_decides xs xs).1 refl
+
 filter_same : {X : Type 0} (p q : X → Bool) → ((x : X) → p x ≡ q x) → (xs : List X) → filter p xs ≡ filter q xs
 filter_same p q e [] = refl
 filter_same p q e (x ∷ xs) = λ i. cond (e x i) (x ∷ filter_same p q e xs i) (filter_same p q e xs i)
@@ -168,7 +176,7 @@ agree true false f g = sym (f refl)
 agree false true f g = g refl
 agree false false f g = refl
 
-module _ (front back : List Level) (count : ℕ) (h : Leads 1 front count) (k : IsChain count back) where
+module _ (front back : List Level) (count : ℕ) (lead : Leads 1 front count) (chain : IsChain count back) where
   abbrev listed : ℕ → List (List ℕ)
   listed node = words_of back (Some node)
 
@@ -182,7 +190,7 @@ module _ (front back : List Level) (count : ℕ) (h : Leads 1 front count) (k : 
   differ i j ge before lt = by (same (listed i) (listed j)) refl
     where
       by : (b : Bool) → same (listed i) (listed j) ≡ b → b ≡ false
-      by true e = let one = one_node count back k i j (omega arith) (omega arith) ((same_decides (listed i) (listed j)).0 e) in absurd (omega arith)
+      by true e = let one = one_node count back chain i j (omega arith) (omega arith) ((same_decides (listed i) (listed j)).0 e) in absurd (omega arith)
       by false e = refl
 
   -- the words of a node are a rest
@@ -191,12 +199,12 @@ module _ (front back : List Level) (count : ℕ) (h : Leads 1 front count) (k : 
       let at = one_at (same q) nodes [] there in
       let small : at.0 < count = omega (arith, at.1, length-map-range_with_len listed 0 count) in
       let here : get_or nodes at.0 [] ≡ listed at.0 = get_or-map-range_with_len listed 0 count at.0 at.0 [] small (omega arith) in
-      let way = led 1 front count h at.0 small in
+      let way = led 1 front count lead at.0 small in
       let root : way.start ≡ 0 = omega (arith, way.from) in
       let to : walk front (Some 0) way.word ≡ Some at.0 = ap (λ n. walk front (Some n) way.word) (sym root) ∙ way.to in
       let is : rests way.word ≡ listed at.0 = rest-is front back (Some 0) way.word way.is ∙ ap (words_of back) to in
       passes_among (λ word. has_words (rests word) && same q (rests word)) (all_words (domains front)) way.word (all_words-is (domains front) way.word ∙ way.is)
-      (together (has_words (rests way.word)) (same q (rests way.word)) (ap has_words is ∙ node_has_words count back k at.0 small) (ap (same q) (is ∙ sym here) ∙ at.2))
+      (together (has_words (rests way.word)) (same q (rests way.word)) (ap has_words is ∙ node_has_words count back chain at.0 small) (ap (same q) (is ∙ sym here) ∙ at.2))
 
   -- a rest that isn't empty has the words of a node
   rest_is_node : (q : List (List ℕ)) → list_any (λ word. has_words (rests word) && same q (rests word)) (all_words (domains front)) ≡ true → list_any (same q) nodes ≡ true
@@ -206,7 +214,7 @@ module _ (front back : List Level) (count : ℕ) (h : Leads 1 front count) (k : 
       let is : is_word (domains front) word ≡ true = sym (all_words-is (domains front) word) ∙ passes_at (pointwise nat_eq word) (all_words (domains front)) at.0 [] at.1 ((bytes_eq-Decides word word).1 refl) in
       let two = both (has_words (rests word)) (same q (rests word)) at.2 in
       let e = rest-is front back (Some 0) word is in
-      by word (walk front (Some 0) word) (walk_inside 1 front count h (Some 0) word refl) (ap has_words (sym e) ∙ two.0) (ap (same q) (sym e) ∙ two.1)
+      by word (walk front (Some 0) word) (walk_inside 1 front count lead (Some 0) word refl) (ap has_words (sym e) ∙ two.0) (ap (same q) (sym e) ∙ two.1)
     where
       by : (word : List ℕ) (x : Option ℕ) → is_outside count x ≡ false → has_words (words_of back x) ≡ true → same q (words_of back x) ≡ true → list_any (same q) nodes ≡ true
       by word None i some e = absurd (no (ap has_words (sym (none_kept back)) ∙ some))
@@ -222,6 +230,38 @@ module _ (front back : List Level) (count : ℕ) (h : Leads 1 front count) (k : 
       sym (length-map-range_with_len listed 0 count)
       ∙ length-from_keys (lists_equiv nat_list_eq_equiv) nodes (filter has_words (map rests (all_words (domains front)))) (distinct_range listed 0 count differ)
       (λ q. agree (list_any (same q) nodes) (list_any (λ word. has_words (rests word) && same q (rests word)) (all_words (domains front))) (node_is_rest q) (rest_is_node q) ∙ sym (any-filter_map (same q) has_words rests (all_words (domains front))))
+
+  different-by : (xs : List (List (List ℕ))) → different xs ≡ different_by same same_is same_itself xs
+  different-by [] = refl
+  different-by (words ∷ xs) = ap (λ l. words ∷ filter (λ other. not (same words other)) l) (different-by xs)
+
+  -- what is summed over the classes is summed over the nodes
+  pub classes_summed : (f : List (List ℕ) → ℕ) → sum_by f (classes (accepts (front ++ back) (Some 0)) (domains front) (domains back)) ≡ sum_by f nodes
+  classes_summed f =
+      let all = filter has_words (map rests (all_words (domains front))) in
+      let any : (q : List (List ℕ)) → list_any (same q) all ≡ list_any (λ word. has_words (rests word) && same q (rests word)) (all_words (domains front)) = λ q. any-filter_map (same q) has_words rests (all_words (domains front)) in
+      ap (sum_by f) (different-by all)
+      ∙ same_sum same same_is same_itself f (different_by same same_is same_itself all) nodes (different_distinct same same_is same_itself all) (distinct_range listed 0 count differ)
+      (λ q h. rest_is_node q (sym (any q) ∙ different_among same same_is same_itself q all h))
+      (λ q h. among_different same same_is same_itself q all (any q ∙ node_is_rest q h))
+
+  -- a beginning is one of a node's class exactly where it leads to the node
+  pub class_is_node : (word : List ℕ) (node : ℕ) → is_word (domains front) word ≡ true → node < count → same (rests word) (listed node) ≡ is_number (walk front (Some 0) word) node
+  class_is_node word node h lt =
+      ap (λ r. same r (listed node)) (rest-is front back (Some 0) word h) ∙ by (walk front (Some 0) word) (walk_inside 1 front count lead (Some 0) word refl)
+    where
+      none : same (words_of back None) (listed node) ≡ false
+      none = differs (same (words_of back None) (listed node)) refl
+        where
+          differs : (b : Bool) → same (words_of back None) (listed node) ≡ b → b ≡ false
+          differs true e = absurd (both_ways (has_words (listed node)) (ap has_words (sym ((same_decides (words_of back None) (listed node)).0 e) ∙ none_kept back)) (node_has_words count back chain node lt))
+          differs false e = refl
+
+      by : (x : Option ℕ) → is_outside count x ≡ false → same (words_of back x) (listed node) ≡ is_number x node
+      by None i = none
+      by (Some other) i = agree (same (listed other) (listed node)) (other == node)
+          (λ e. let one = one_node count back chain other node (inside count (Some other) other i refl) lt ((same_decides (listed other) (listed node)).0 e) in grind (arith, nat_tests))
+          (λ e. let one : other ≡ node = grind (arith, nat_tests) in (same_decides (listed other) (listed node)).1 (ap listed one))
 
 -- the first levels lead from the root to a layer
 leads_from : (raw : RawDiagram) → IsCanonical raw → (k v : ℕ) → v + k ≤ length raw.domains → Leads (get_or raw.sizes v 0) (take k (drop v (levels raw))) (get_or raw.sizes (v + k) 0)
@@ -263,3 +303,55 @@ pub all_counted : (raw : RawDiagram) → IsCanonical raw → sum raw.sizes ≡ s
 all_counted raw h =
     let counted : ℕ → ℕ = λ layer. rest_count (accepts (levels raw) (Some 0)) (take layer raw.domains) (drop layer raw.domains) in
     ap sum (fill_by_all counted raw.sizes (length raw.domains + 1) 0 h.shape.layers (λ layer lt. layer_counted raw h layer (omega arith)))
+
+-- along as many values as levels words lead where they walk
+walk-leads : (front : List Level) (x : Option ℕ) (word : List ℕ) → is_word (domains front) word ≡ true → walk front x word ≡ leads_to front x word
+walk-leads [] x [] h = refl
+walk-leads [] x (value ∷ word) h = absurd cc
+walk-leads (l ∷ ls) x [] h = absurd cc
+walk-leads (l ∷ ls) None (value ∷ word) h = refl
+walk-leads (l ∷ ls) (Some node) (value ∷ word) h = walk-leads ls (edge l node value) word (both (nat_lt value l.domain) (is_word (domains ls) word) h).1
+
+-- the words from a node of a layer on
+abbrev pub node_words : RawDiagram → ℕ → ℕ → List (List ℕ)
+node_words raw layer node = filter (accepts (drop layer (levels raw)) (Some node)) (all_words (drop layer raw.domains))
+
+module _ (raw : RawDiagram) (h : IsCanonical raw) (layer : ℕ) (le : layer ≤ length raw.domains) where
+  abbrev size_of : ℕ
+  size_of = get_or raw.sizes layer 0
+
+  abbrev front_of : List Level
+  front_of = take layer (levels raw)
+
+  abbrev back_of : List Level
+  back_of = drop layer (levels raw)
+
+  first_is : domains front_of ≡ take layer raw.domains
+  first_is = map-take (λ l. l.domain) layer (levels raw) ∙ ap (take layer) (domains-levels raw)
+
+  left_is : domains back_of ≡ drop layer raw.domains
+  left_is = map-drop (λ l. l.domain) layer (levels raw) ∙ ap (drop layer) (domains-levels raw)
+
+  lead_of : Leads 1 front_of size_of
+  lead_of =
+      let zeros : 0 + layer ≡ layer = omega arith in
+      subst (λ n. Leads n front_of size_of) h.shape.root (subst (λ i. Leads (get_or raw.sizes 0 0) front_of (get_or raw.sizes i 0)) zeros (leads_from raw h layer 0 (omega arith)))
+
+  chain_of : IsChain size_of back_of
+  chain_of = chain_from raw h (length raw.domains - layer) layer (omega arith)
+
+  -- what is summed over the classes of a layer is summed over its nodes
+  pub layer_classes : (f : List (List ℕ) → ℕ) → sum_by f (classes (accepts (levels raw) (Some 0)) (take layer raw.domains) (drop layer raw.domains)) ≡ sum_by f (map (node_words raw layer) (range_with_len 0 size_of))
+  layer_classes f =
+      sym (λ i. sum_by f (classes (accepts (take-append-drop layer (levels raw) i) (Some 0)) (first_is i) (left_is i)))
+      ∙ classes_summed front_of back_of size_of lead_of chain_of f
+      ∙ (λ i. sum_by f (map (λ node. filter (accepts back_of (Some node)) (all_words (left_is i))) (range_with_len 0 size_of)))
+
+  -- a beginning is one of a node's class exactly where it leads to the node
+  pub layer_class : (word : List ℕ) (node : ℕ) → is_word (take layer raw.domains) word ≡ true → node < size_of
+      → same (rest (accepts (levels raw) (Some 0)) (drop layer raw.domains) word) (node_words raw layer node) ≡ is_number (leads_to front_of (Some 0) word) node
+  layer_class word node over lt =
+      let is : is_word (domains front_of) word ≡ true = ap (λ d. is_word d word) first_is ∙ over in
+      sym (λ i. same (rest (accepts (take-append-drop layer (levels raw) i) (Some 0)) (left_is i) word) (filter (accepts back_of (Some node)) (all_words (left_is i))))
+      ∙ class_is_node front_of back_of size_of lead_of chain_of word node is lt
+      ∙ ap (λ x. is_number x node) (walk-leads front_of (Some 0) word is)

@@ -4,6 +4,7 @@ pub mod ChoiceLemmas
 pub mod CostLemmas
 pub mod CountLemmas
 pub mod DiagramLemmas
+pub mod DifferentLemmas
 pub mod EqualWords
 pub mod FirstBelow
 pub mod FirstBest

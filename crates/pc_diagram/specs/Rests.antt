@@ -1,5 +1,5 @@
 -- What words of a set go on with after a beginning, and the size of a set.
-use Rattle.std.specs.Prelude.{ℕ, ◌+◌, nat_eq, nat_lt, Bool, List, ◌++◌, length, map, filter, take, drop, sum}
+use Rattle.std.specs.Prelude.{ℕ, ◌+◌, nat_eq, nat_lt, Bool, not, List, [], ◌∷◌, ◌++◌, length, map, filter, take, drop, sum}
 use Rattle.std.specs.Cmp.Lexicographic.{pointwise}
 use Rattle.std.specs.List.{range_with_len}
 use Rattle.std.specs.Set.{distinct_count}
@@ -21,3 +21,16 @@ rest_count set first left = distinct_count (pointwise (pointwise nat_eq)) (filte
 -- the empty one to whole words
 abbrev pub size : List ℕ → (List ℕ → Bool) → ℕ
 size domains set = sum (map (λ count. rest_count set (take count domains) (drop count domains)) (range_with_len 0 (length domains + 1)))
+
+-- two lists of words are the same
+abbrev pub same_words : List (List ℕ) → List (List ℕ) → Bool
+same_words = pointwise (pointwise nat_eq)
+
+-- the different ones of some lists of words, each where it stands first
+abbrev pub different : List (List (List ℕ)) → List (List (List ℕ))
+different [] = []
+different (words ∷ others) = words ∷ filter (λ other. not (same_words words other)) (different others)
+
+-- the classes of the beginnings over the first domains: their different non-empty rests
+abbrev pub classes : (List ℕ → Bool) → List ℕ → List ℕ → List (List (List ℕ))
+classes set first left = different (filter has_words (map (rest set left) (all_words first)))

@@ -11,4 +11,5 @@ pub mod PathSteps
 pub mod SideLemmas
 pub mod StageLemmas
 pub mod SweepLemmas
+pub mod WordFrontLemmas
 pub mod WholeLemmas

@@ -1,14 +1,25 @@
 -- What is swept from items in order is their front.
 use Rattle.std.proofs.Common.{◌≡◌, ℤ, ◌<ℤ◌, ◌≤ℤ◌, List, [], ◌∷◌, map, Option, None, Some, Bool, true, false, not, cond, Contains, ◌⊎◌, inl, inr, refl, sym, ap, ◌∙◌, subst, arith}
-use Rattle.std.specs.Prelude.{int_lt}
+use Rattle.std.specs.Prelude.{int_lt, if◌then◌else◌}
 use Rattle.std.specs.List.{AllByRecursion, dedup, dedup_from}
 use Rattle.std.proofs.lemmas.Bool.{cond_both}
 use Rattle.std.proofs.lemmas.Int.{ints}
 use Rattle.std.proofs.lemmas.List.Elements.{All-from_recursion}
 use Rattle.pc_pareto.specs.declared.front_item.FrontItem.{FrontItem}
 use Rattle.pc_pareto.specs.Front.{Falls}
-use Rattle.pc_pareto.specs.Items.{pair_of, precedes, is_below, is_past, swept, IsCovered, IsFrontOf}
+use Rattle.pc_pareto.specs.Items.{pair_of, precedes, is_past, IsCovered, IsFrontOf}
 use Rattle.pc_pareto.proofs.ItemLemmas.{covers_itself, covers_later, first_rises, contains_head, contains_tail, all_weaker, all_both, all_among, all_map}
+
+-- the second cost is below the least so far
+abbrev is_below : Option ℤ → ℤ → Bool
+is_below None second = true
+is_below (Some least) second = int_lt second least
+
+-- of items in order, those whose second cost is below all before it
+abbrev swept : Option ℤ → List FrontItem → List FrontItem
+swept least [] = []
+swept least (item ∷ items) =
+    if is_below least item.second then item ∷ swept (Some item.second) items else swept least items
 
 -- no item comes before an earlier one
 abbrev pub InOrder : List FrontItem → Type 0
@@ -16,7 +27,7 @@ InOrder [] = Unit {0}
 InOrder (x ∷ xs) = AllByRecursion (λ y. precedes y x ≡ false) xs × InOrder xs
 
 -- what is swept from items, where the least second cost before them is known
-pub record SweptFrom (least : Option ℤ) (items kept : List FrontItem) : Type 0 where
+record SweptFrom (least : Option ℤ) (items kept : List FrontItem) : Type 0 where
   pub falls : Falls (map pair_of kept)
   pub below : AllByRecursion (λ y. is_below least y.second ≡ true) kept
   pub among : AllByRecursion (Contains items) kept
@@ -59,14 +70,14 @@ module _ (least : Option ℤ) (x : FrontItem) (xs kept : List FrontItem) (h : Al
     covered = (inl e, r.covered);
   }
 
-pub swept_is : (least : Option ℤ) (items : List FrontItem) → InOrder items → SweptFrom least items (swept least items)
+swept_is : (least : Option ℤ) (items : List FrontItem) → InOrder items → SweptFrom least items (swept least items)
 swept_is least [] h = record { falls = tt; below = tt; among = tt; covered = tt }
 swept_is least (x ∷ xs) h =
     cond_both (is_below least x.second) (x ∷ swept (Some x.second) xs) (swept least xs) (SweptFrom least (x ∷ xs))
     (λ e. takes least x xs (swept (Some x.second) xs) h.0 e (swept_is (Some x.second) xs h.1))
     (λ e. skips least x xs (swept least xs) h.0 e (swept_is least xs h.1))
 
-pub swept_front : (items : List FrontItem) → InOrder items → IsFrontOf items (swept None items)
+swept_front : (items : List FrontItem) → InOrder items → IsFrontOf items (swept None items)
 swept_front items h =
     let r = swept_is None items h in
     let kept = swept None items in

@@ -1,5 +1,5 @@
 -- Items of fronts: pairs of costs, each with the step back that leads to it.
-use Rattle.std.specs.Prelude.{◌≡◌, nat_lt, ℤ, List, [], ◌∷◌, map, filter, All, Contains, Bool, true, ◌&&◌, ◌||◌, not, if◌then◌else◌, Option, None, Some, int_lt}
+use Rattle.std.specs.Prelude.{◌≡◌, nat_lt, List, map, filter, All, Contains, Bool, true, ◌&&◌, ◌||◌, not, Option, Some, int_lt}
 use Rattle.pc_diagram.specs.declared.costs.CostPair.{CostPair}
 use Rattle.pc_diagram.specs.Best.{first_best}
 use Rattle.pc_diagram.specs.Costs.{is_cheaper}
@@ -22,20 +22,9 @@ precedes item other =
     is_cheaper (pair_of item) (pair_of other)
     || (not (is_cheaper (pair_of other) (pair_of item)) && nat_lt item.back.rank other.back.rank)
 
--- the second cost is below the least so far
-abbrev pub is_below : Option ℤ → ℤ → Bool
-is_below None second = true
-is_below (Some least) second = int_lt second least
-
 -- the second cost of an item isn't below that of another
 abbrev pub is_past : FrontItem → FrontItem → Bool
 is_past item kept = not (int_lt item.second kept.second)
-
--- of items in order, those whose second cost is below all before it
-abbrev pub swept : Option ℤ → List FrontItem → List FrontItem
-swept least [] = []
-swept least (item ∷ items) =
-    if is_below least item.second then item ∷ swept (Some item.second) items else swept least items
 
 -- some item of a list makes this one needless
 abbrev pub IsCovered : List FrontItem → FrontItem → Type 0

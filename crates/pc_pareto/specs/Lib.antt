@@ -13,3 +13,4 @@ pub mod Lists
 pub mod Numbered
 pub mod Pass
 pub mod Stages
+pub mod WordFronts

@@ -1,15 +1,21 @@
 //! Laws of fronts.
 
-ghost use Rattle.std.specs.Prelude.{◌≡◌, [], ◌∷◌, List, map, Some, None};
+ghost use Rattle.std.specs.Prelude.{◌≡◌, ℕ, [], ◌∷◌, List, map, Some, None};
 ghost use Rattle.pc_diagram.specs.declared.costs.CostPair.{CostPair};
 ghost use Rattle.pc_pareto.specs.declared.front_item.FrontItem.{FrontItem};
 ghost use Rattle.pc_diagram.specs.Bike.{bike_costs};
 ghost use Rattle.pc_diagram.specs.BikeDiagram.{bike_diagram};
+ghost use Rattle.pc_diagram.specs.declared.choice.Choice.{Choice};
+ghost use Rattle.pc_diagram.specs.declared.raw_diagram.RawDiagram.{RawDiagram};
+ghost use Rattle.pc_diagram.specs.declared.side.Side.{Side};
 ghost use Rattle.pc_diagram.specs.declared.side.Side.TheVariants.{Heads, Tails};
+ghost use Rattle.pc_diagram.specs.Diagram.{IsCanonical};
+ghost use Rattle.pc_diagram.specs.Paths.{has_word};
 ghost use Rattle.pc_pareto.specs.BikeFronts.{bike_pairs, bike_front, offered_items, kept_items};
 ghost use Rattle.pc_pareto.specs.Front.{front, IsFront};
 ghost use Rattle.pc_pareto.specs.Fronts.{front_of_node, sizes_from, limit_at};
 ghost use Rattle.pc_pareto.specs.Items.{pair_of, IsFrontOf, IsFrontOfOffered};
+ghost use Rattle.pc_pareto.specs.WordFronts.{length_size, word_limit_at};
 
 /// A list of pairs has one front: what falls by second cost as it rises by first cost, is taken of the list, and has for
 /// each of its pairs one that is at most that pair.
@@ -36,4 +42,18 @@ pub fn bikes_have_fronts_at_each_node()
     ensures few { limit_at 3 Heads bike_diagram bike_costs [] ≡ Some 1 }
     ensures more { limit_at 3 Tails bike_diagram bike_costs [] ≡ Some 2 }
     ensures enough { limit_at 8 Heads bike_diagram bike_costs [] ≡ None }
+{}
+
+/// Where the fronts of a diagram's nodes have too many pairs, its words alone tell: for the nodes of a layer are the classes
+/// of the beginnings of that length, which are those with the same rest.
+pub fn words_tell_where_fronts_have_too_many_pairs()
+    ensures { (raw : RawDiagram) (costs : List (List CostPair)) (choices : List Choice) (most : ℕ) (side : Side) → IsCanonical raw
+        → word_limit_at most side (has_word raw) raw.domains costs choices ≡ limit_at most side raw costs choices }
+{}
+
+/// On the bikes, by evaluation: the beginnings of two values have two different rests, and the fronts of these two classes have
+/// a pair each.
+pub fn bikes_have_fronts_at_each_class()
+    ensures heads { length_size Heads (has_word bike_diagram) bike_diagram.domains bike_costs [] 2 ≡ 2 }
+    ensures tails { length_size Tails (has_word bike_diagram) bike_diagram.domains bike_costs [] 1 ≡ 3 }
 {}

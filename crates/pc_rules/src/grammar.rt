@@ -1,7 +1,7 @@
 //! The grammar of rules, by recursive descent. Each function reads one form from the front of the tokens that are
 //! left. The depth says how deep parentheses may still nest, which bounds the stack.
 
-ghost use Rattle.std.specs.Prelude.{◌≡◌, IfOk};
+ghost use Rattle.std.specs.Prelude.{◌≡◌, Ok};
 ghost use Rattle.pc_rules.specs.Outcome.{Gives, Reads};
 ghost use Rattle.pc_rules.specs.Words.{listed, several, eat_word};
 ghost use Rattle.pc_rules.specs.Reading as spec;
@@ -56,6 +56,26 @@ fn chained<'a>(kind: Chain, mut members: Items<Phrase<'a>>) -> Phrase<'a>
     }
 }
 
+/// `not r`
+fn negated<'a>(alloc: Global, inner: Phrase<'a>) -> Result<Phrase<'a>, RuleFault>
+    ensures { Gives (λ phrase. phrase) result (Ok (Phrase.Not inner.entry)) }
+{
+    Ok(Phrase::Not(Boxed::new(alloc, inner)?))
+}
+
+/// `r => s`
+fn implied<'a>(
+    alloc: Global,
+    premise: Phrase<'a>,
+    conclusion: Phrase<'a>,
+) -> Result<Phrase<'a>, RuleFault>
+    ensures { Gives (λ phrase. phrase) result (Ok (Phrase.Implies premise.entry conclusion.entry)) }
+{
+    let premise = Boxed::new(alloc, premise)?;
+    let conclusion = Boxed::new(alloc, conclusion)?;
+    Ok(Phrase::Implies(premise, conclusion))
+}
+
 #[cycle(reading)]
 #[tactic(auto, unfolding(crate::specs::Reading::rule_at))]
 fn rule<'a>(alloc: Global, cursor: &mut Cursor<'a>, depth: usize) -> Result<Phrase<'a>, RuleFault>
@@ -81,7 +101,7 @@ fn implication<'a>(
         return Ok(premise);
     }
     let conclusion = chain(alloc, cursor, depth, Chain::Or)?;
-    Ok(Phrase::Implies(Boxed::new(alloc, premise)?, Boxed::new(alloc, conclusion)?))
+    implied(alloc, premise, conclusion)
 }
 
 #[cycle(reading)]
@@ -146,8 +166,7 @@ fn negation<'a>(
     if !cursor.eat_word("not") {
         return atom(alloc, cursor, depth);
     }
-    let inner = atom(alloc, cursor, depth)?;
-    Ok(Phrase::Not(Boxed::new(alloc, inner)?))
+    negated(alloc, atom(alloc, cursor, depth)?)
 }
 
 #[cycle(reading)]

@@ -1,7 +1,8 @@
 //! The rule that a phrase names, with positions in place of words.
 
-ghost use Rattle.std.specs.Prelude.{◌≡◌, ◌^◌, map};
+ghost use Rattle.std.specs.Prelude.{◌≡◌, map, Ok};
 ghost use Rattle.pc_rules.specs.Outcome.{Gives};
+ghost use Rattle.pc_rules.specs.declared.phrase.Phrase.TheOpen.{Is, IsNot, OneOf, Same, Table};
 ghost use Rattle.pc_rules.specs.Naming as spec;
 
 use crate::count::count_of;
@@ -116,43 +117,105 @@ fn rows_at(
     Ok(found)
 }
 
+/// `v=a`
+fn equal_named(
+    names: &Catalogue,
+    variable: &Lexeme<'_>,
+    value: &Lexeme<'_>,
+) -> Result<Rule, RuleFault>
+    ensures { Gives (λ rule. rule) result (spec.named_step names.now (Is variable.now value.now)) }
+{
+    let variable = variable_at(names, variable)?;
+    let value = value_at(names, variable, value)?;
+    Ok(Rule::Is { variable, value })
+}
+
+/// `v!=a`
+fn unequal_named(
+    names: &Catalogue,
+    variable: &Lexeme<'_>,
+    value: &Lexeme<'_>,
+) -> Result<Rule, RuleFault>
+    ensures { Gives (λ rule. rule) result (spec.named_step names.now (IsNot variable.now value.now)) }
+{
+    let variable = variable_at(names, variable)?;
+    let value = value_at(names, variable, value)?;
+    Ok(Rule::IsNot { variable, value })
+}
+
+/// `v in {a, b}`
+fn one_of_named(
+    alloc: Global,
+    names: &Catalogue,
+    variable: &Lexeme<'_>,
+    values: &[Lexeme<'_>],
+) -> Result<Rule, RuleFault>
+    ensures { Gives (λ rule. rule) result (spec.named_step names.now (OneOf variable.now values.now)) }
+{
+    let variable = variable_at(names, variable)?;
+    let values = values_at(alloc, names, variable, values)?;
+    Ok(Rule::OneOf { variable, values })
+}
+
+/// `same(v, w)`
+fn same_named(names: &Catalogue, first: &Lexeme<'_>, second: &Lexeme<'_>) -> Result<Rule, RuleFault>
+    ensures { Gives (λ rule. rule) result (spec.named_step names.now (Same first.now second.now)) }
+{
+    let first = variable_at(names, first)?;
+    let second = variable_at(names, second)?;
+    Ok(Rule::Same(first, second))
+}
+
+/// `table (v, w) {a b, c d}`
+fn table_named(
+    alloc: Global,
+    names: &Catalogue,
+    variables: &[Lexeme<'_>],
+    rows: &[Sequence<Lexeme<'_>>],
+) -> Result<Rule, RuleFault>
+    ensures { Gives (λ rule. rule) result (spec.named_step names.now (Table variables.now rows.now)) }
+{
+    let variables = variables_at(alloc, names, variables)?;
+    let rows = rows_at(alloc, names, variables.as_slice(), rows)?;
+    Ok(Rule::Table { variables, rows })
+}
+
+/// `not r`
+fn negated(alloc: Global, inner: Rule) -> Result<Rule, RuleFault>
+    ensures { Gives (λ rule. rule) result (Ok (Rule.Not inner)) }
+{
+    Ok(Rule::Not(Boxed::new(alloc, inner)?))
+}
+
+/// `r => s`
+fn implied(alloc: Global, premise: Rule, conclusion: Rule) -> Result<Rule, RuleFault>
+    ensures { Gives (λ rule. rule) result (Ok (Rule.Implies premise conclusion)) }
+{
+    let premise = Boxed::new(alloc, premise)?;
+    let conclusion = Boxed::new(alloc, conclusion)?;
+    Ok(Rule::Implies(premise, conclusion))
+}
+
 /// The rule that a phrase names.
 #[cycle(naming)]
 pub fn rule_named(alloc: Global, names: &Catalogue, phrase: &Phrase<'_>) -> Result<Rule, RuleFault>
     ensures { Gives (λ rule. rule) result (spec.rule_named names.now phrase.now) }
 {
     match phrase {
-        Phrase::Is { variable, value } => {
-            let variable = variable_at(names, variable)?;
-            let value = value_at(names, variable, value)?;
-            Ok(Rule::Is { variable, value })
-        }
-        Phrase::IsNot { variable, value } => {
-            let variable = variable_at(names, variable)?;
-            let value = value_at(names, variable, value)?;
-            Ok(Rule::IsNot { variable, value })
-        }
+        Phrase::Is { variable, value } => equal_named(names, variable, value),
+        Phrase::IsNot { variable, value } => unequal_named(names, variable, value),
         Phrase::OneOf { variable, values } => {
-            let variable = variable_at(names, variable)?;
-            let values = values_at(alloc, names, variable, values.as_slice())?;
-            Ok(Rule::OneOf { variable, values })
+            one_of_named(alloc, names, variable, values.as_slice())
         }
-        Phrase::Not(inner) => {
-            let inner = rule_named(alloc, names, inner.get())?;
-            Ok(Rule::Not(Boxed::new(alloc, inner)?))
-        }
+        Phrase::Not(inner) => negated(alloc, rule_named(alloc, names, inner.get())?),
         Phrase::And(members) => Ok(Rule::And(all_named(alloc, names, members.as_slice())?)),
         Phrase::Or(members) => Ok(Rule::Or(all_named(alloc, names, members.as_slice())?)),
         Phrase::Implies(premise, conclusion) => {
             let premise = rule_named(alloc, names, premise.get())?;
             let conclusion = rule_named(alloc, names, conclusion.get())?;
-            Ok(Rule::Implies(Boxed::new(alloc, premise)?, Boxed::new(alloc, conclusion)?))
+            implied(alloc, premise, conclusion)
         }
-        Phrase::Same(first, second) => {
-            let first = variable_at(names, first)?;
-            let second = variable_at(names, second)?;
-            Ok(Rule::Same(first, second))
-        }
+        Phrase::Same(first, second) => same_named(names, first, second),
         Phrase::AtMost { most, members } => {
             // That it is a number from 0 to 64 was seen before.
             let most = count_of(most.as_bytes()).unwrap_or(0);
@@ -160,9 +223,7 @@ pub fn rule_named(alloc: Global, names: &Catalogue, phrase: &Phrase<'_>) -> Resu
             Ok(Rule::AtMost { most, members })
         }
         Phrase::Table { variables, rows } => {
-            let variables = variables_at(alloc, names, variables.as_slice())?;
-            let rows = rows_at(alloc, names, variables.as_slice(), rows.as_slice())?;
-            Ok(Rule::Table { variables, rows })
+            table_named(alloc, names, variables.as_slice(), rows.as_slice())
         }
     }
 }
