@@ -1,5 +1,5 @@
 -- The sets that are made of the bike's rules, as tests that compute, and the first of them with too many nodes.
-use Rattle.std.proofs.Common.{◌≡◌, ℕ, Bool, true, ◌&&◌, List, [], ◌∷◌, ◌++◌, get_or, refl, sym, subst}
+use Rattle.std.proofs.Common.{◌≡◌, ℕ, Bool, true, ◌&&◌, List, [], ◌∷◌, ◌++◌, refl, sym, subst}
 use Rattle.pc_file.specs.declared.rule.Rule.{Rule-F}
 use Rattle.pc_file.specs.Bike.{bike}
 use Rattle.pc_file.specs.Full.{full_domains}
@@ -35,60 +35,17 @@ made_is =
     ∷ (with_itself (at_second Parts (parts_step bike.variables) i) ++ (λ word. (true && at_first Bool (holds_step bike.variables word) i) && at_second Bool (holds_step bike.variables word) i) ∷ [])
     ∷ [])
 
--- the sets of a rule, and the set of one of its parts
-abbrev sets_at : ℕ → List (List ℕ → Bool)
-sets_at rule = get_or made rule []
-
-abbrev set_at : ℕ → ℕ → List ℕ → Bool
-set_at rule part = get_or (sets_at rule) part (λ word. true)
-
 pub limit_three : IsNodeLimit 3 (full_domains bike) (compile_list bike) 1 1
-limit_three = subst (λ sets. IsNodeLimit 3 (full_domains bike) sets 1 1) made_is (record {
-  rule_place = 0;
-  part_place = 0;
-  sets = sets_at 0;
-  set = set_at 0 0;
-  rule_is = refl;
-  part_is = refl;
-  first_rule = record { stands = refl; passes = refl; none_before = refl };
-  first_part = record { stands = refl; passes = refl; none_before = refl };
-})
+limit_three = subst (λ sets. IsNodeLimit 3 (full_domains bike) sets 1 1) made_is refl
 
 pub limit_four : IsNodeLimit 4 (full_domains bike) (compile_list bike) 1 3
-limit_four = subst (λ sets. IsNodeLimit 4 (full_domains bike) sets 1 3) made_is (record {
-  rule_place = 0;
-  part_place = 2;
-  sets = sets_at 0;
-  set = set_at 0 2;
-  rule_is = refl;
-  part_is = refl;
-  first_rule = record { stands = refl; passes = refl; none_before = refl };
-  first_part = record { stands = refl; passes = refl; none_before = refl };
-})
+limit_four = subst (λ sets. IsNodeLimit 4 (full_domains bike) sets 1 3) made_is refl
 
 pub limit_five : IsNodeLimit 5 (full_domains bike) (compile_list bike) 2 4
-limit_five = subst (λ sets. IsNodeLimit 5 (full_domains bike) sets 2 4) made_is (record {
-  rule_place = 1;
-  part_place = 3;
-  sets = sets_at 1;
-  set = set_at 1 3;
-  rule_is = refl;
-  part_is = refl;
-  first_rule = record { stands = refl; passes = refl; none_before = refl };
-  first_part = record { stands = refl; passes = refl; none_before = refl };
-})
+limit_five = subst (λ sets. IsNodeLimit 5 (full_domains bike) sets 2 4) made_is refl
 
 pub limit_six : IsNodeLimit 6 (full_domains bike) (compile_list bike) 2 5
-limit_six = subst (λ sets. IsNodeLimit 6 (full_domains bike) sets 2 5) made_is (record {
-  rule_place = 1;
-  part_place = 4;
-  sets = sets_at 1;
-  set = set_at 1 4;
-  rule_is = refl;
-  part_is = refl;
-  first_rule = record { stands = refl; passes = refl; none_before = refl };
-  first_part = record { stands = refl; passes = refl; none_before = refl };
-})
+limit_six = subst (λ sets. IsNodeLimit 6 (full_domains bike) sets 2 5) made_is refl
 
 pub no_limit_seven : HasNoNodeLimit 7 (full_domains bike) (compile_list bike)
 no_limit_seven = subst (HasNoNodeLimit 7 (full_domains bike)) made_is refl

@@ -1,9 +1,7 @@
 -- Rules joined one after another.
-use Rattle.std.proofs.Common.{◌≡◌, ℕ, ◌+◌, ◌<◌, ◌≤◌, nat_lt, Bool, true, false, ◌&&◌, ◌||◌, List, [], ◌∷◌, ◌++◌, length, take, drop, get_or, slice_get, Some, refl, sym, ap, ◌∙◌, subst, arith, append_assoc}
-use Rattle.std.specs.List.{list_any}
-use Rattle.std.proofs.lemmas.List.{take_all, drop_more, length_push, take-append-le}
-use Rattle.std.proofs.lemmas.List.Folds.{list_all_more, list_any-append, list_any_at}
-use Rattle.std.proofs.lemmas.Option.{slice_get_within, get_or_from_slice_get}
+use Rattle.std.proofs.Common.{◌≡◌, ℕ, ◌+◌, ◌<◌, ◌≤◌, nat_lt, Bool, true, false, ◌&&◌, ◌||◌, List, [], ◌∷◌, ◌++◌, length, drop, get_or, Some, refl, sym, ap, ◌∙◌, subst, arith, append_assoc}
+use Rattle.std.proofs.lemmas.List.{drop_more, length_push}
+use Rattle.std.proofs.lemmas.List.Folds.{list_all_more}
 use Rattle.pc_diagram.specs.declared.limits.TheConstants.{MOST_NODES}
 use Rattle.std.proofs.lemmas.Bool.Decides.{nat_tests}
 use Rattle.pc_diagram.specs.Rests.{size}
@@ -17,10 +15,10 @@ use Rattle.pc_file.specs.declared.variable.Variable.{Variable}
 use Rattle.pc_file.specs.declared.rule.Rule.{Rule}
 use Rattle.pc_file.specs.Products.{value_counts}
 use Rattle.pc_file.specs.Rule.{holds}
-use Rattle.pc_file.specs.Parts.{parts_of, sets_of, is_too_large, IsNodeLimit}
+use Rattle.pc_file.specs.Parts.{parts_of, sets_of, node_limit_from, IsNodeLimit}
 use Rattle.pc_build.specs.Making.{Holds, Denotes, AllMade, StopsAt}
 use Rattle.pc_build.specs.Building.{Joined}
-use Rattle.pc_build.proofs.MakingLemmas.{later}
+use Rattle.pc_build.proofs.LimitLemmas.{passed_over, limit_here, no_limit_here}
 
 -- no rule yet
 pub joined_none : (variables : List Variable) (rules : List Rule) (all : Conjunction) → Holds (value_counts variables) all (λ word. true) → Joined variables rules 0 all
@@ -53,7 +51,7 @@ module _ (variables : List Variable) (rules : List Rule) (i : ℕ) (all : Conjun
     before = h.before ++ sets ∷ [];
     sets_are = goes_on ∙ sym (append_assoc h.before (sets ∷ []) (sets_of variables both (drop (i + 1) rules)));
     count_is = length_push h.before sets ∙ ap (λ n. n + 1) h.count_is;
-    none = list_any-append (list_any (is_too_large MOST_NODES (value_counts variables))) h.before (sets ∷ []) ∙ (λ k. h.none k || (made_all.none k || false));
+    none = passed_over MOST_NODES (value_counts variables) 1 h.before (sets ∷ []) h.none ∙ no_limit_here MOST_NODES (value_counts variables) (1 + length h.before) sets made_all.none;
     holds_all = holds_now;
     words = λ word.
         (λ k. h.words word k && holds variables word (read k))
@@ -62,23 +60,17 @@ module _ (variables : List Variable) (rules : List Rule) (i : ℕ) (all : Conjun
 
   -- one of its sets is too large
   pub limit_at : (part : ℕ) → StopsAt (value_counts variables) sets 0 part → IsNodeLimit MOST_NODES (value_counts variables) (sets_of variables (λ word. true) rules) (i + 1) part
-  limit_at part stops = record {
-    rule_place = i;
-    part_place = stops.place;
-    sets = sets;
-    set = stops.part;
-    rule_is = refl;
-    part_is = let n = stops.number_is in omega arith;
-    first_rule = record {
-      stands = ap (λ ss. slice_get ss i) goes_on ∙ subst (λ n. slice_get (h.before ++ sets ∷ sets_of variables both (drop (i + 1) rules)) n ≡ Some sets) (let c = h.count_is in let same : length h.before + 0 ≡ i = omega arith in same) (later h.before (sets ∷ sets_of variables both (drop (i + 1) rules)) 0 sets refl);
-      passes = list_any_at (is_too_large MOST_NODES (value_counts variables)) sets stops.place stops.part (slice_get_within sets stops.place stops.part stops.first.stands)
-          (ap (is_too_large MOST_NODES (value_counts variables)) (get_or_from_slice_get sets stops.place stops.part stops.part stops.first.stands) ∙ stops.first.passes);
-      none_before = ap (λ ss. list_any (list_any (is_too_large MOST_NODES (value_counts variables))) (take i ss)) goes_on
-          ∙ ap (list_any (list_any (is_too_large MOST_NODES (value_counts variables)))) (take-append-le i h.before (sets ∷ sets_of variables both (drop (i + 1) rules)) (let c = h.count_is in omega arith) ∙ take_all i h.before (let c = h.count_is in omega arith))
-          ∙ h.none;
-    };
-    first_part = stops.first;
-  }
+  limit_at part stops =
+      ap (node_limit_from 1 MOST_NODES (value_counts variables)) goes_on
+      ∙ passed_over MOST_NODES (value_counts variables) 1 h.before (sets ∷ sets_of variables both (drop (i + 1) rules)) h.none
+      ∙ limit_here MOST_NODES (value_counts variables) (1 + length h.before) sets (sets_of variables both (drop (i + 1) rules)) stops.place stops.part stops.first
+      ∙ ap Some (λ k. (rule_is k, part_is k))
+    where
+      rule_is : 1 + length h.before ≡ i + 1
+      rule_is = let c = h.count_is in omega arith
+
+      part_is : stops.place + 1 ≡ part
+      part_is = let n = stops.number_is in omega arith
 
 and_true : (b : Bool) → b ≡ (b && true)
 and_true true = refl

@@ -17,6 +17,7 @@ pub mod OverLemmas
 pub mod RuleParts
 pub mod SpelledLemmas
 pub mod WeightLemmas
+pub mod LimitLemmas
 pub mod JoinedLemmas
 pub mod ProductLemmas
 pub mod FullLemmas

@@ -1,6 +1,6 @@
 -- Making the sets of a file's rules, one after another.
-use Rattle.std.specs.Prelude.{◌≡◌, ℕ, ◌≤◌, Bool, true, false, List, [], ◌++◌, length, take, drop, slice_index}
-use Rattle.std.specs.List.{list_all, list_any}
+use Rattle.std.specs.Prelude.{◌≡◌, ℕ, ◌≤◌, Bool, true, List, [], ◌++◌, None, Some, length, take, drop, slice_index}
+use Rattle.std.specs.List.{list_all}
 use Rattle.pc_diagram.specs.declared.limits.TheConstants.{MOST_NODES}
 use Rattle.pc_diagram.specs.declared.raw_diagram.RawDiagram.{RawDiagram}
 use Rattle.pc_diagram.specs.Rests.{rest_count}
@@ -11,7 +11,7 @@ use Rattle.pc_file.specs.Contents.{Contents}
 use Rattle.pc_file.specs.Full.{full_domains, full, is_full}
 use Rattle.pc_file.specs.Products.{value_counts}
 use Rattle.pc_file.specs.Rule.{holds}
-use Rattle.pc_file.specs.Parts.{is_too_large, sets_of, compile_list, IsNodeLimit, HasNoNodeLimit}
+use Rattle.pc_file.specs.Parts.{sets_of, IsNodeLimit, HasNoNodeLimit, file_node_limit}
 use Rattle.pc_build.specs.declared.fault.BuildFault.{BuildFault}
 use Rattle.pc_build.specs.declared.fault.BuildFault.TheVariants.{NodeLimit, NoProduct, NoMemory}
 use Rattle.pc_build.specs.Making.{Holds}
@@ -23,7 +23,7 @@ pub record Joined (variables : List Variable) (rules : List Rule) (count : ℕ) 
   pub before : List (List (List ℕ → Bool))
   pub sets_are : sets_of variables (λ word. true) rules ≡ before ++ sets_of variables obeys (drop count rules)
   pub count_is : length before ≡ count
-  pub none : list_any (list_any (is_too_large MOST_NODES (value_counts variables))) before ≡ false
+  pub none : HasNoNodeLimit MOST_NODES (value_counts variables) before
   pub holds_all : Holds (value_counts variables) all obeys
   pub words : (word : List ℕ) → obeys word ≡ list_all (holds variables word) (take count rules)
 
@@ -35,12 +35,12 @@ IsJoinFault variables rules NoMemory = Unit {0}
 
 -- no set that is made of a file is too large
 abbrev pub IsSmall : Contents → Type 0
-IsSmall file = HasNoNodeLimit MOST_NODES (full_domains file) (compile_list file)
+IsSmall file = file_node_limit file ≡ None
 
 -- a fault of compiling a file comes exactly so: first the first set that is too large, then that there is no product;
 -- want of memory may come in any case
 abbrev pub IsBuildFault : Contents → BuildFault → Type 0
-IsBuildFault file (NodeLimit rule part) = IsNodeLimit MOST_NODES (full_domains file) (compile_list file) rule part
+IsBuildFault file (NodeLimit rule part) = file_node_limit file ≡ Some (rule, part)
 IsBuildFault file NoProduct = IsSmall file × (full file ≡ [])
 IsBuildFault file NoMemory = Unit {0}
 

@@ -1,5 +1,5 @@
 -- Making the sets of words of rules and of their parts.
-use Rattle.std.specs.Prelude.{◌≡◌, ℕ, ◌+◌, ◌&&◌, Bool, true, false, List, Some, Result, Ok, Err, length, slice_get}
+use Rattle.std.specs.Prelude.{◌≡◌, ℕ, ◌+◌, ◌&&◌, Bool, true, false, List, Some, Result, Ok, Err, length, take, slice_get}
 use Rattle.std.specs.List.{list_all, list_any}
 use Rattle.pc_diagram.specs.declared.limits.TheConstants.{MOST_NODES}
 use Rattle.pc_diagram.specs.Words.{is_word}
@@ -12,7 +12,7 @@ use Rattle.pc_file.specs.declared.variable.Variable.{Variable}
 use Rattle.pc_file.specs.declared.rule.Rule.{Rule}
 use Rattle.pc_file.specs.Limits.{is_spelled}
 use Rattle.pc_file.specs.Rule.{holds}
-use Rattle.pc_file.specs.Parts.{is_too_large, IsFirst}
+use Rattle.pc_file.specs.Parts.{is_too_large}
 use Rattle.pc_build.specs.declared.fault.PartFault.{PartFault}
 use Rattle.pc_build.specs.declared.fault.PartFault.TheVariants.{TooLarge, NoMemory}
 
@@ -37,6 +37,12 @@ pub record Holds (domains : List ℕ) (all : Conjunction) (test : List ℕ → B
 pub record DenoteEach (store : Store) (variables : List Variable) (rules : List Rule) (ids : List Id) : Type 0 where
   pub count : length ids ≡ length rules
   pub each : (place : ℕ) (rule : Rule) (id : Id) → slice_get rules place ≡ Some rule → slice_get ids place ≡ Some id → Denotes store (λ word. holds variables word rule) id
+
+-- what stands at a place passes a test, and nothing before it does
+pub record IsFirst {X : Type 0} (test : X → Bool) (items : List X) (place : ℕ) (item : X) : Type 0 where
+  pub stands : slice_get items place ≡ Some item
+  pub passes : test item ≡ true
+  pub none_before : list_any test (take place items) ≡ false
 
 -- the sets of all parts were made, so many more than before, and none of them is too large
 pub record AllMade (domains : List ℕ) (parts : List (List ℕ → Bool)) (old new : ℕ) : Type 0 where

@@ -20,6 +20,7 @@ mod parts;
 mod products;
 mod rules;
 mod same;
+mod shared_version;
 mod span;
 mod table;
 mod tables;
@@ -28,4 +29,5 @@ mod version;
 
 pub use compiler::compile;
 pub use fault::BuildFault;
+pub use shared_version::SharedVersion;
 pub use version::Version;

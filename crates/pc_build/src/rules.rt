@@ -1,12 +1,12 @@
 //! The words for which all rules hold.
 
-ghost use Rattle.std.specs.Prelude.{◌≡◌, ◌&&◌, ℕ, Bool, List, [], ◌∷◌, ◌++◌, true, false, length, ◌<◌, ◌≤◌, ◌^◌, All, IfOk, IfErr};
-ghost use Rattle.std.specs.List.{list_all, list_any};
+ghost use Rattle.std.specs.Prelude.{◌≡◌, ◌&&◌, ℕ, Bool, List, [], ◌∷◌, ◌++◌, true, length, ◌<◌, ◌≤◌, ◌^◌, All, IfOk, IfErr};
+ghost use Rattle.std.specs.List.{list_all};
 ghost use Rattle.pc_store.specs.Layered.{IsDomain};
 ghost use Rattle.pc_store.specs.Sets.{domains_of, Keeps};
 ghost use Rattle.pc_file.specs.Products.{value_counts};
 ghost use Rattle.pc_file.specs.Rule.{holds};
-ghost use Rattle.pc_file.specs.Parts.{parts_of, sets_of, is_too_large};
+ghost use Rattle.pc_file.specs.Parts.{parts_of, sets_of, HasNoNodeLimit};
 ghost use Rattle.pc_conjunction.specs.Conjunctions.{conjunction_domains};
 ghost use Rattle.pc_build.specs.Making.{IsSpelled, AreSpelled, Holds, Made};
 ghost use Rattle.pc_build.specs.Building.{IsJoinFault};
@@ -38,7 +38,7 @@ pub(crate) fn words_of_rules(
     requires spelled { AreSpelled variables.now rules.now }
     requires few { length rules.now < 2 ^ 32 }
     ensures words { IfOk result (λ all. Holds (value_counts variables.now) all (λ word. list_all (holds variables.now word) rules.now)) }
-    ensures small { IfOk result (λ _. list_any (list_any (is_too_large MOST_NODES (value_counts variables.now))) (sets_of variables.now (λ word. true) rules.now) ≡ false) }
+    ensures small { IfOk result (λ _. HasNoNodeLimit MOST_NODES (value_counts variables.now) (sets_of variables.now (λ word. true) rules.now)) }
     ensures fault { IfErr result (IsJoinFault variables.now rules.now) }
 {
     let mut store = Store::new(alloc, domains)?;

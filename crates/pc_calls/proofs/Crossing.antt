@@ -90,7 +90,7 @@ inside_sync = recorded_sync _ _ _ (file_type.TheInside.the_type).to_one (struct_
 file_sync : IsSync file_type.the_row
 file_sync = view_sync _ _ _ _ _ inside_sync
 
-shared_send : IsSend shared_type.the_row
+pub shared_send : IsSend shared_type.the_row
 shared_send = search (file_send, file_sync, crosses, sendable) depth 30 fits 20000
 
 number_send : IsSend u64-field.row
@@ -105,7 +105,7 @@ head_send = search (name_send, sequence.the_send, crosses, sendable) depth 60 fi
 pub entry_send : IsSend entry_type.the_row
 entry_send = recorded_send _ _ _ (entry_type.the_type).to_one (struct_send (shape entry_type.the_type) (number_send, (call_send, (head_send, tt))))
 
-shared_sync : IsSync shared_type.the_row
+pub shared_sync : IsSync shared_type.the_row
 shared_sync = search (file_send, file_sync, crosses, sendable) depth 30 fits 20000
 
 number_sync : IsSync u64-field.row

@@ -1,3 +1,4 @@
+pub mod BikeBounds
 pub mod LineWordLemmas
 pub mod TableLemmas
 pub mod KindLemmas

@@ -2,16 +2,17 @@
 use Rattle.std.proofs.Common.{◌≡◌, ℕ, zero, suc, ◌+◌, ◌≤◌, ◌==◌, nat_le, Bool, true, false, not, cond, List, [], ◌∷◌, ◌++◌, length, filter, Option, Some, None, Ok, Err, option_map, slice_get, All, Contains, refl, sym, ap, ◌∙◌, inl, inr, arith}
 use Rattle.std.specs.Prelude.{unwrap_or}
 use Rattle.std.proofs.lemmas.List.Elements.{All-head, All-tail, All-nil, All-cons, All-append, All-filter, All-contains_itself}
-use Rattle.pc_file.specs.Limits.{Contents}
-use Rattle.pc_file.specs.Products.{products}
+use Rattle.pc_file.specs.Contents.{Contents}
+use Rattle.pc_file.specs.Full.{full}
+use Rattle.pc_file.specs.Parts.{file_node_limit}
 use Rattle.pc_calls.specs.declared.call.Call.{Call}
 use Rattle.pc_calls.specs.declared.call.Call.TheVariants as call
 use Rattle.pc_calls.specs.declared.outcome.Outcome.{Outcome}
-use Rattle.pc_calls.specs.declared.outcome.Outcome.TheVariants.{NoSession, NoVersion, SessionsFull, NoProduct, Stale, ShelvesFull}
-use Rattle.pc_calls.specs.Decision.{Decision, ◌>>=◌, ◌>>◌, required, refused_where}
+use Rattle.pc_calls.specs.declared.outcome.Outcome.TheVariants.{NodeLimit, NoProduct, NoSession, NoVersion, SessionsFull, ShelvesFull, Stale}
+use Rattle.pc_calls.specs.Decision.{Decision, ◌>>=◌, ◌>>◌, refused_by, refused_where, required}
 use Rattle.pc_calls.specs.History.{is_present}
 use Rattle.pc_calls.specs.Kept.{IsKept}
-use Rattle.pc_calls.specs.Selection.{Selection, choose, retract, show}
+use Rattle.pc_calls.specs.Selection.{Selection, bound, choose, retract, show, unbound}
 use Rattle.pc_calls.specs.State.{Caller, OpenSession, State, Version, current, file_of, is_owned, is_session, live_versions, numbered, open_sessions, opened_by, session_of}
 use Rattle.pc_calls.specs.Step.{after, asking, change_first, change_numbered, drop_first, step, gone, has_row, in_session, newcomer, state_of, with_opened, with_selection}
 
@@ -42,14 +43,15 @@ module _ (P : State → Type 0) (caller : ℕ) (before : State) (base : P before
   after-any (call.Show session) = through-session P caller session show before base (asked session)
   after-any (call.Choose session variable value) = through-session P caller session (choose variable value) before base (asked session)
   after-any (call.Retract session variable) = through-session P caller session (retract variable) before base (asked session)
-  after-any (call.Bound session cost most) = base
-  after-any (call.Unbound session cost) = base
+  after-any (call.Bound session cost most) = through-session P caller session (bound cost most) before base (asked session)
+  after-any (call.Unbound session cost) = through-session P caller session (unbound cost) before base (asked session)
   after-any (call.Rebase session version dropping) = base
   after-any (call.Close session) = through P before (required (session_of before caller session) NoSession) _ base (λ _. closed session)
   after-any (call.Publish number file) =
-      through P before (refused_where (length (products file) == 0) NoProduct) _ base
+      through P before (refused_by (file_node_limit file) (λ limit. NodeLimit limit.0 limit.1)) _ base
+      (λ _. through P before (refused_where (length (full file) == 0) NoProduct) _ base
       (λ _. through P before (refused_where (not (number == current before)) (Stale (current before))) _ base
-      (λ _. through P before (refused_where (nat_le 32 (live_versions before)) ShelvesFull) _ base (λ _. published file)))
+      (λ _. through P before (refused_where (nat_le 32 (live_versions before)) ShelvesFull) _ base (λ _. published file))))
   after-any (call.Reclaim version) = base
   after-any call.Versions = base
   after-any call.Leave = left

@@ -23,3 +23,8 @@ required None refusal = Err refusal
 -- it is refused where this stands
 abbrev pub refused_where : Bool → Outcome → Decision (Unit {0})
 refused_where stands refusal = if stands then Err refusal else Ok tt
+
+-- it is refused where something is there, as that tells
+abbrev pub refused_by : {A : Type 0} → Option A → (A → Outcome) → Decision (Unit {0})
+refused_by None refusal = Ok tt
+refused_by (Some x) refusal = Err (refusal x)

@@ -7,6 +7,7 @@ pub mod CommandTold
 pub mod Heads
 pub mod History
 pub mod Kept
+pub mod LabelLimit
 pub mod LineWords
 pub mod ReplyText
 pub mod Selection

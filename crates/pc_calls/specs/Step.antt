@@ -1,14 +1,15 @@
 -- What each call does to the state, or the first of its refusals that stands. A refused call leaves the state.
 use Rattle.std.specs.Prelude.{ℕ, zero, suc, ◌==◌, ◌+◌, nat_le, Bool, true, false, not, if◌then◌else◌, List, [], ◌∷◌, ◌++◌, filter, length, Ok, Err}
-use Rattle.pc_file.specs.Limits.{Contents}
-use Rattle.pc_file.specs.Products.{products}
+use Rattle.pc_file.specs.Contents.{Contents}
+use Rattle.pc_file.specs.Full.{full}
+use Rattle.pc_file.specs.Parts.{file_node_limit}
 use Rattle.pc_calls.specs.declared.call.Call.{Call}
 use Rattle.pc_calls.specs.declared.call.Call.TheVariants.{Enter, Open, Show, Choose, Retract, Bound, Unbound, Rebase, Close, Publish, Reclaim, Versions, Leave}
 use Rattle.pc_calls.specs.declared.limits.TheConstants.{MOST_LIVE, MOST_SESSIONS}
 use Rattle.pc_calls.specs.declared.outcome.Outcome.{Outcome}
-use Rattle.pc_calls.specs.declared.outcome.Outcome.TheVariants.{Done, NoSession, NoVersion, SessionsFull, NoProduct, Stale, ShelvesFull}
-use Rattle.pc_calls.specs.Decision.{Decision, ◌>>=◌, ◌>>◌, required, refused_where}
-use Rattle.pc_calls.specs.Selection.{Selection, free, show, choose, retract}
+use Rattle.pc_calls.specs.declared.outcome.Outcome.TheVariants.{Done, NodeLimit, NoProduct, NoSession, NoVersion, SessionsFull, ShelvesFull, Stale}
+use Rattle.pc_calls.specs.Decision.{Decision, ◌>>=◌, ◌>>◌, refused_by, refused_where, required}
+use Rattle.pc_calls.specs.Selection.{Selection, bound, choose, free, retract, show, unbound}
 use Rattle.pc_calls.specs.State.{Caller, OpenSession, State, current, live_versions, file_of, opened_by, is_owned, is_session, session_of, open_sessions}
 
 -- the item of a number, counted from 1, changed
@@ -81,7 +82,8 @@ close caller number state = do
 -- publish: the file is the next version, live and current
 abbrev pub publish : ℕ → Contents → State → Decision State
 publish base file state = do
-  refused_where (length (products file) == 0) NoProduct
+  refused_by (file_node_limit file) (λ limit. NodeLimit limit.0 limit.1)
+  refused_where (length (full file) == 0) NoProduct
   refused_where (not (base == current state)) (Stale (current state))
   refused_where (nat_le MOST_LIVE (live_versions state)) ShelvesFull
   Ok (record { versions = state.versions ++ record { file = file; live = true } ∷ []; callers = state.callers; sessions = state.sessions })
@@ -93,8 +95,6 @@ leave caller state =
 
 -- The calls whose rows stand below. Of the others nothing is said yet: no legal history has one, and no law speaks of them.
 abbrev pub has_row : Call → Bool
-has_row (Bound session cost most) = false
-has_row (Unbound session cost) = false
 has_row (Rebase session version dropping) = false
 has_row (Reclaim version) = false
 has_row Versions = false
@@ -107,6 +107,8 @@ step caller Open state = open_session caller state
 step caller (Show session) state = in_session caller session show state
 step caller (Choose session variable value) state = in_session caller session (choose variable value) state
 step caller (Retract session variable) state = in_session caller session (retract variable) state
+step caller (Bound session cost most) state = in_session caller session (bound cost most) state
+step caller (Unbound session cost) state = in_session caller session (unbound cost) state
 step caller (Close session) state = close caller session state
 step caller (Publish base file) state = publish base file state
 step caller Leave state = leave caller state

@@ -19,10 +19,17 @@ pub fn write_head(alloc: Global, head: &Head) -> Result<Text, NoMemory>
     ensures { IfOk result (λ text. text ≡ spec.head_text head.now) }
 {
     let mut text = Text::new(alloc);
-    push_first_line(&mut text, head)?;
-    push_live(&mut text, head.live.as_slice())?;
-    push_dropped(&mut text, head.dropped.as_slice())?;
+    push_head(&mut text, head)?;
     Ok(text)
+}
+
+/// Puts the lines of a head at the end of a text.
+pub(crate) fn push_head(text: &mut Text, head: &Head) -> Result<(), NoMemory>
+    ensures { OnOk result (text.new ≡ text.old ++ spec.head_text head.now) }
+{
+    push_first_line(text, head)?;
+    push_live(text, head.live.as_slice())?;
+    push_dropped(text, head.dropped.as_slice())
 }
 
 fn push_first_line(text: &mut Text, head: &Head) -> Result<(), NoMemory>

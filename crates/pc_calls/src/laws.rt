@@ -1,11 +1,16 @@
 //! Laws of the definitions. Each function's contract is a law; nothing calls them.
 
-ghost use Rattle.std.specs.Prelude.{◌≡◌, ℕ, ◌≤◌, ◌+◌, true, Some, Ok, All};
+ghost use Rattle.std.specs.Prelude.{◌≡◌, ℕ, ◌≤◌, ◌+◌, pos, codes, true, [], ◌∷◌, Some, None, Ok, Err, All};
+ghost use Rattle.pc_diagram.specs.declared.side.Side.TheVariants.{Heads};
+ghost use Rattle.pc_file.specs.Bike.{bike};
 ghost use Rattle.pc_file.specs.Limits.{Contents};
 ghost use Rattle.pc_calls.specs.declared.call.Call.{Call};
 ghost use Rattle.pc_calls.specs.declared.call.Call.TheVariants.{Open};
+ghost use Rattle.pc_calls.specs.declared.outcome.Outcome.TheVariants.{NoCost, NotBounded, TooTight};
 ghost use Rattle.pc_calls.specs.History.{is_present};
 ghost use Rattle.pc_calls.specs.Kept.{IsKept};
+ghost use Rattle.pc_calls.specs.LabelLimit.{first_limit};
+ghost use Rattle.pc_calls.specs.Selection.{bound, free, unbound};
 ghost use Rattle.pc_calls.specs.State.{State, file_of, opened_by};
 ghost use Rattle.pc_calls.specs.Step.{after, step, has_row};
 
@@ -36,6 +41,17 @@ pub fn numbers_are_given_once()
     ensures grows { (caller : ℕ) (call : Call) (state : State) (owner : ℕ) → has_row call ≡ true → opened_by state owner ≤ opened_by (after caller call state) owner }
     ensures counts { (caller : ℕ) (state later : State) → is_present state caller ≡ true → step caller Open state ≡ Ok later
         → opened_by later caller ≡ opened_by state caller + 1 }
+{}
+
+/// The worked example, by evaluation: the bike may be bound to two days, and to one it may not, since its least are two; it has
+/// no cost of another name, and a bound that isn't set can't be taken back. Three pairs of costs would be too many from the
+/// frame on.
+pub fn bikes_are_bound()
+    ensures two { bound (codes "days") (pos 2) bike free ≡ Ok (record { choices = []; bounds = record { first = None; second = Some (pos 2) } }) }
+    ensures one { bound (codes "days") (pos 1) bike free ≡ Err (TooTight (pos 2)) }
+    ensures unknown { bound (codes "weight") (pos 5) bike free ≡ Err NoCost }
+    ensures unset { unbound (codes "price") bike free ≡ Err NotBounded }
+    ensures limit { first_limit 3 bike [] ≡ Some (Heads, 1) }
 {}
 
 /// Files, calls, entries and replies may be sent to other threads and shared with them.

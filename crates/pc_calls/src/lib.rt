@@ -38,4 +38,4 @@ pub use outcome::Outcome;
 pub use placed_word::PlacedWord;
 pub use reading::read_call;
 pub use reply::{Reply, Shown};
-pub use writing::write_reply;
+pub use writing::{push_reply, write_reply};

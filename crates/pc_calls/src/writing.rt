@@ -3,7 +3,7 @@
 ghost use Rattle.std.specs.Prelude.{◌≡◌, ◌++◌, IfOk, OnOk};
 ghost use Rattle.pc_calls.specs.ReplyText.{shown_text, reply_text};
 
-use crate::head_text::write_head;
+use crate::head_text::push_head;
 use crate::reply::{Reply, Shown};
 use pc_base::{NoMemory, Text};
 use pc_file::push_listing;
@@ -13,10 +13,18 @@ use std::alloc::Global;
 pub fn write_reply(alloc: Global, reply: &Reply) -> Result<Text, NoMemory>
     ensures { IfOk result (λ text. text ≡ reply_text reply.now) }
 {
-    let mut text = write_head(alloc, &reply.head)?;
-    push_shown(&mut text, &reply.shown)?;
-    text.extend_from_slice(b".\n")?;
+    let mut text = Text::new(alloc);
+    push_reply(&mut text, reply)?;
     Ok(text)
+}
+
+/// Puts the text of a reply at the end of a text.
+pub fn push_reply(text: &mut Text, reply: &Reply) -> Result<(), NoMemory>
+    ensures { OnOk result (text.new ≡ text.old ++ reply_text reply.now) }
+{
+    push_head(text, &reply.head)?;
+    push_shown(text, &reply.shown)?;
+    text.extend_from_slice(b".\n")
 }
 
 fn push_shown(text: &mut Text, shown: &Option<Shown>) -> Result<(), NoMemory>

@@ -14,12 +14,11 @@ use Rattle.pc_io.proofs.TookLemmas.{took_nothing, took_line, took_both, stopped_
 use Rattle.pc_file.specs.PrintedForm.{with_feed, text_of_lines}
 use Rattle.pc_file.specs.Limits.{Contents}
 use Rattle.pc_rules.specs.declared.kind.Kind.{Kind}
-use Rattle.pc_text.specs.TooManyWords.{has_too_many_words, too_many_words_at}
 use Rattle.pc_text.specs.FirstFault.{first_fault, given_by}
 use Rattle.pc_text.specs.Given.{contents_given}
 use Rattle.pc_conn.specs.declared.body.Body.{Body}
-use Rattle.pc_conn.specs.declared.body.Body.TheVariants.{File, Fault, NotBuilt, Cut}
-use Rattle.pc_conn.specs.BodyText.{body_of, body_by, sound_body}
+use Rattle.pc_conn.specs.declared.body.Body.TheVariants.{File, Fault, Cut}
+use Rattle.pc_conn.specs.BodyText.{body_of, body_by}
 use Rattle.pc_conn.specs.Reading.{IsUnread, IsHalted, GivesBody, ReadsBody}
 
 -- so far so many lines were taken, and with a line feed each they are the text
@@ -123,22 +122,17 @@ unmoved_goes_on n line first l m source_then source after before again = by firs
         absurd (ok_is_no_err (Some line) fault clash.0)
 
 -- a text is never cut
-sound-not_cut : (too_many : Bool) (line : Option ℕ) (file : Contents) → Cut ≡ sound_body too_many line file → ⊥
-sound-not_cut true line file e = cc
-sound-not_cut false line file e = cc
-
-by-not_cut : (fault : Option (ℕ × Kind)) (too_many : Bool) (line : Option ℕ) (file : Contents) → Cut ≡ body_by fault (sound_body too_many line file) → ⊥
-by-not_cut None too_many line file e = sound-not_cut too_many line file e
-by-not_cut (Some fault) too_many line file e = cc
+by-not_cut : (fault : Option (ℕ × Kind)) (file : Contents) → Cut ≡ body_by fault file → ⊥
+by-not_cut None file e = cc
+by-not_cut (Some fault) file e = cc
 
 not_cut : (text : List ℕ) → Cut ≡ body_of text → ⊥
 unfolding body_of
-not_cut text e = by-not_cut (first_fault text) (has_too_many_words (given_by text)) (too_many_words_at text) (contents_given (given_by text)) e
+not_cut text e = by-not_cut (first_fault text) (contents_given (given_by text)) e
 
 reads_by : (count : ℕ) (body : Body) (text : List ℕ) (before after : Moment) → body ≡ body_of text → GivesBody count body before after → ReadsBody count (Ok body) before after
 reads_by count (File file) text before after e gives = gives
 reads_by count (Fault line kind) text before after e gives = gives
-reads_by count (NotBuilt line) text before after e gives = gives
 reads_by count Cut text before after e gives = absurd (not_cut text e)
 
 -- all lines were taken, and their text was read

@@ -16,13 +16,8 @@ bad_text column = codes "bad " ++ decimal column ++ codes "\n.\n"
 abbrev pub fault_text : ℕ → Kind → List ℕ
 fault_text line kind = codes "text " ++ decimal line ++ 32 ∷ kind_word kind ++ codes "\n.\n"
 
--- `not-built LINE`
-abbrev pub not_built_text : ℕ → List ℕ
-not_built_text line = codes "not-built " ++ decimal line ++ codes "\n.\n"
-
 -- the answer to an item, where calls have these replies
 abbrev pub answer_text : (Call → Reply) → Item → List ℕ
 answer_text reply (item.Call call) = reply_text (reply call)
 answer_text reply (item.Bad column) = bad_text column
 answer_text reply (item.Fault line kind) = fault_text line kind
-answer_text reply (item.NotBuilt line) = not_built_text line

@@ -28,7 +28,6 @@ heard line from = heard_call (length line) (line_call line from)
 abbrev pub published : Announced → Body → Item
 published announced (body.File file) = item.Call (call.Publish announced.base file)
 published announced (body.Fault line kind) = item.Fault line kind
-published announced (body.NotBuilt line) = item.NotBuilt line
 published announced body.Cut = item.Bad announced.end_column
 
 -- P of the call, if one is heard

@@ -5,7 +5,7 @@ use Rattle.pc_io.specs.NextLine.{lasting}
 use Rattle.pc_io.specs.Took.{Moment, Took, Stopped}
 use Rattle.pc_file.specs.PrintedForm.{text_of_lines}
 use Rattle.pc_conn.specs.declared.body.Body.{Body}
-use Rattle.pc_conn.specs.declared.body.Body.TheVariants.{File, Fault, NotBuilt, Cut}
+use Rattle.pc_conn.specs.declared.body.Body.TheVariants.{File, Fault, Cut}
 use Rattle.pc_conn.specs.declared.body_fault.BodyFault.{BodyFault}
 use Rattle.pc_conn.specs.declared.body_fault.BodyFault.TheVariants.{Line, NoMemory}
 use Rattle.pc_conn.specs.BodyText.{body_of}
@@ -54,7 +54,6 @@ pub record IsHalted (count : ℕ) (before after : Moment) : Type 0 where
 abbrev pub ReadsBody : ℕ → Result Body BodyFault → Moment → Moment → Type 0
 ReadsBody count (Ok (File file)) before after = GivesBody count (File file) before after
 ReadsBody count (Ok (Fault line kind)) before after = GivesBody count (Fault line kind) before after
-ReadsBody count (Ok (NotBuilt line)) before after = GivesBody count (NotBuilt line) before after
 ReadsBody count (Ok Cut) before after = IsCut count before after
 ReadsBody count (Err (Line fault)) before after = IsUnread count fault before after
 ReadsBody count (Err NoMemory) before after = IsHalted count before after

@@ -1,7 +1,7 @@
 //! The answers to lines that stand for no call.
 
 ghost use Rattle.std.specs.Prelude.{◌≡◌, ◌++◌, OnOk};
-ghost use Rattle.pc_conn.specs.Answers.{bad_text, fault_text, not_built_text};
+ghost use Rattle.pc_conn.specs.Answers.{bad_text, fault_text};
 
 use pc_base::{NoMemory, Text};
 use pc_text::Kind;
@@ -23,14 +23,5 @@ pub fn push_fault(text: &mut Text, line: u64, kind: Kind) -> Result<(), NoMemory
     text.push_unsigned(line)?;
     text.push(b' ')?;
     text.extend_from_slice(kind.word().as_bytes())?;
-    text.extend_from_slice(b"\n.\n")
-}
-
-/// Puts `not-built LINE` and a line `.` at the end of a text.
-pub fn push_not_built(text: &mut Text, line: u64) -> Result<(), NoMemory>
-    ensures { OnOk result (text.new ≡ text.old ++ not_built_text line) }
-{
-    text.extend_from_slice(b"not-built ")?;
-    text.push_unsigned(line)?;
     text.extend_from_slice(b"\n.\n")
 }

@@ -10,8 +10,6 @@ pub enum Body {
     File(SharedFile),
     /// The first fault of the text, with the number of its line, counted from 1.
     Fault { line: u64, kind: Kind },
-    /// The file has too many words for the plain list from this line on.
-    NotBuilt { line: u64 },
     /// The input ended before the text did.
     Cut,
 }

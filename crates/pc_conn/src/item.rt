@@ -13,8 +13,6 @@ pub enum Item {
     Bad { column: u64 },
     /// The text of a publish has its first fault on this line, counted from 1.
     Fault { line: u64, kind: Kind },
-    /// The file of a publish has too many words for the plain list from this line on.
-    NotBuilt { line: u64 },
 }
 
 /// A publish whose text is to follow on so many lines: the version that its caller knew, and the column right after
@@ -47,7 +45,6 @@ impl Announced {
                 file,
             }),
             Body::Fault { line, kind } => Item::Fault { line, kind },
-            Body::NotBuilt { line } => Item::NotBuilt { line },
             Body::Cut => Item::Bad {
                 column: self.end_column,
             },

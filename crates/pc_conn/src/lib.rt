@@ -12,7 +12,7 @@ mod item;
 pub mod laws;
 mod reading;
 
-pub use answers::{push_bad, push_fault, push_not_built};
+pub use answers::{push_bad, push_fault};
 pub use body::Body;
 pub use body_fault::BodyFault;
 pub use hearing::hear;

@@ -1,12 +1,11 @@
 //! Reading the text that follows a publish.
 
-ghost use Rattle.std.specs.Prelude.{◌≡◌, ◌≢◌, ◌≤◌, ◌<◌, false, [], None, IsTrue, IfOk, IfSome, OnOk, Ok, Err};
+ghost use Rattle.std.specs.Prelude.{◌≡◌, ◌≢◌, ◌≤◌, ◌<◌, false, [], None, IsTrue, IfSome, OnOk, Ok, Err};
 ghost use Rattle.std.specs.Io.KnownBytes.{IsAtEnd};
 ghost use Rattle.pc_base.specs.Rose.{Rose};
 ghost use Rattle.pc_io.specs.declared.line_fault.LineFault.TheVariants.{ReadFault};
 ghost use Rattle.pc_conn.specs.declared.body.Body.TheVariants.{Cut};
 ghost use Rattle.pc_conn.specs.declared.body_fault.BodyFault.TheVariants.{Line};
-ghost use Rattle.pc_conn.specs.BodyText.{HasFewWords};
 ghost use Rattle.pc_conn.specs.Reading.{ReadsBody, fault_kept};
 
 use crate::body::Body;
@@ -28,7 +27,6 @@ pub fn read_body<S: Source>(
     ensures read { ReadsBody count result
         (record { cutter = lines.old; rest = S.rest source.old })
         (record { cutter = lines.new; rest = S.rest source.new }) }
-    ensures few { IfOk result HasFewWords }
     ensures failed { lines.old.fault ≡ None → result ≡ Err (Line ReadFault)
         → Rose (S.read_faults source.old) (S.read_faults source.new) }
     ensures at_end { IsTrue lines.new.ended → IsAtEnd (S.rest source.new) }

@@ -68,7 +68,7 @@ second_before items place other falls le inside = by (nat_lt place other) refl
 pub less_one_way : (a b : Ranked) → is_less a b ≡ true → is_less b a ≡ false
 less_one_way a b h = grind (arith, ints, nat_tests)
 
-no_cheaper : (p q r : Bool) → (p || (not q && r)) ≡ false → p ≡ false
+pub no_cheaper : (p q r : Bool) → (p || (not q && r)) ≡ false → p ≡ false
 no_cheaper true q r h = absurd cc
 no_cheaper false q r h = refl
 

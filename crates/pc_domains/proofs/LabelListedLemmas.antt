@@ -19,7 +19,7 @@ use Rattle.pc_domains.specs.declared.label_way.LabelWay.{LabelWay}
 use Rattle.pc_domains.specs.Joins.{IsSumPair, is_less}
 use Rattle.pc_domains.specs.LabelPaths.{kept_by_labels}
 use Rattle.pc_domains.specs.ListedWays.{IsListedByLabels}
-use Rattle.pc_domains.specs.LabelWays.{AreLinkable, IsLeastLabelWay, linked, linked_at, linked_over, word_of_label_way}
+use Rattle.pc_domains.specs.LabelWays.{AreLinkable, AreSummedLabels, IsLeastLabelWay, linked, linked_at, linked_over, word_of_label_way}
 use Rattle.pc_domains.specs.Orders.{IsNoDearer}
 use Rattle.pc_domains.specs.Sides.{AreSides, IsAsked, IsLeastWay, listed_of, price_of}
 use Rattle.pc_domains.specs.Ways.{Way, joined_pair, joined_word}
@@ -36,14 +36,19 @@ summed : (costs : List (List CostPair)) (o : Option Kept) → IsPriced costs →
 summed costs None priced h = tt
 summed costs (Some k) priced h = subst IsSumPair (sym h) (sums_of costs k.path priced)
 
+pub tails_summed : (raw : RawDiagram) (costs : List (List CostPair)) (choices : List Choice) (variable : ℕ) (after : KeptPaths) → AreCostsOf raw.domains costs → variable < length raw.domains → AreTails raw choices costs after
+    → AreSummedLabels (length raw.domains + 1) (variable + 1) (get_or raw.sizes (variable + 1) 0) after
+tails_summed raw costs choices variable after costs_of inside are_tails =
+    let t = are_tails.labelled (variable + 1) (omega arith) in
+    record { layers_are = are_tails.layers; nodes = t.nodes; sums = λ node lt. summed (drop (variable + 1) costs) (kept_at after (variable + 1) node) (priced_rest costs (variable + 1) costs_of.priced) (t.priced node lt) }
+
 pub linkable : (raw : RawDiagram) (costs : List (List CostPair)) (choices : List Choice) (variable : ℕ) (before after : KeptPaths) → IsCanonical raw → AreCostsOf raw.domains costs → variable < length raw.domains → AreHeads raw choices costs before → AreTails raw choices costs after → AreLinkable raw variable before after
 linkable raw costs choices variable before after canonical costs_of inside are_heads are_tails =
     let h = are_heads.labelled variable (omega arith) in
-    let t = are_tails.labelled (variable + 1) (omega arith) in
     record {
       canonical = canonical;
       before = record { layers_are = are_heads.layers; nodes = h.nodes; sums = λ node lt. summed costs (kept_at before variable node) costs_of.priced (h.priced node lt) };
-      after = record { layers_are = are_tails.layers; nodes = t.nodes; sums = λ node lt. summed (drop (variable + 1) costs) (kept_at after (variable + 1) node) (priced_rest costs (variable + 1) costs_of.priced) (t.priced node lt) };
+      after = tails_summed raw costs choices variable after costs_of inside are_tails;
     }
 
 -- ---- the two paths of what is linked

@@ -20,7 +20,7 @@ pub none_some : (o : Option Ranked) (a : Ranked) → o ≡ None → o ≡ Some a
 none_some None a e f = absurd cc
 none_some (Some r) a e f = absurd cc
 
-less_itself : (r : Ranked) → is_less r r ≡ false
+pub less_itself : (r : Ranked) → is_less r r ≡ false
 less_itself r = by (is_less r r) refl
   where
     by : (b : Bool) → is_less r r ≡ b → b ≡ false

@@ -4,6 +4,7 @@ pub mod MadeLemmas
 pub mod SlotLemmas
 pub mod AgreeLemmas
 pub mod FitLemmas
+pub mod FloorLemmas
 pub mod FrontListedLemmas
 pub mod FrontPathLemmas
 pub mod FrontSides
@@ -21,6 +22,7 @@ pub mod ListedLemmas
 pub mod OrderLemmas
 pub mod PartLemmas
 pub mod RangeLemmas
+pub mod SummedEnds
 pub mod SwapLemmas
 pub mod ThroughLemmas
 pub mod WayLemmas

@@ -1,5 +1,5 @@
 -- A board that is made.
-use Rattle.std.proofs.Common.{◌≡◌, List, Option, None, Some, true, refl, ap, ◌∙◌}
+use Rattle.std.proofs.Common.{◌≡◌, List, Option, None, true, ap, ◌∙◌}
 use Rattle.std.specs.Option.{option_or}
 use Rattle.pc_diagram.specs.declared.bounds.Bounds.{Bounds}
 use Rattle.pc_diagram.specs.declared.choice.Choice.{Choice}
@@ -11,31 +11,17 @@ use Rattle.pc_diagram.specs.NodePaths.{AreCostsOf}
 use Rattle.pc_domains.specs.declared.ends.Ends.{Ends}
 use Rattle.pc_domains.specs.Boards.{IsBoardOf}
 use Rattle.pc_domains.specs.Ends.{IsEndOf, root_is_within}
-use Rattle.pc_domains.specs.LabelLimits.{board_limit, end_limit}
+use Rattle.pc_domains.specs.LabelLimits.{end_limit, limit_under}
 use Rattle.pc_domains.specs.Sides.{AreDistinctOf}
 use Rattle.pc_domains.proofs.EndLemmas.{some_fits}
 
 both_none : {X : Type 0} (a b : Option X) → a ≡ None → b ≡ None → option_or a b ≡ None
 both_none a b h k = ap (λ o. option_or o b) h ∙ k
 
-first_none : {X : Type 0} (a b : Option X) → option_or a b ≡ None → a ≡ None
-first_none None b h = refl
-first_none (Some x) b h = absurd cc
-
-second_none : {X : Type 0} (a b : Option X) → option_or a b ≡ None → b ≡ None
-second_none None b h = h
-second_none (Some x) b h = absurd cc
-
 module _ (raw : RawDiagram) (costs : List (List CostPair)) (choices : List Choice) (bounds : Bounds) where
   -- a board has no limit where neither of its ends has
-  pub within_both : end_limit Heads raw costs choices bounds.second ≡ None → end_limit Tails raw costs choices bounds.second ≡ None → board_limit raw costs choices bounds ≡ None
+  pub within_both : end_limit Heads raw costs choices bounds.second ≡ None → end_limit Tails raw costs choices bounds.second ≡ None → limit_under raw costs choices bounds.second ≡ None
   within_both = both_none (end_limit Heads raw costs choices bounds.second) (end_limit Tails raw costs choices bounds.second)
-
-  pub heads_within : board_limit raw costs choices bounds ≡ None → end_limit Heads raw costs choices bounds.second ≡ None
-  heads_within = first_none (end_limit Heads raw costs choices bounds.second) (end_limit Tails raw costs choices bounds.second)
-
-  pub tails_within : board_limit raw costs choices bounds ≡ None → end_limit Tails raw costs choices bounds.second ≡ None
-  tails_within = second_none (end_limit Heads raw costs choices bounds.second) (end_limit Tails raw costs choices bounds.second)
 
   pub board_made : IsCanonical raw → AreCostsOf raw.domains costs → AreDistinctOf raw.domains choices → (heads tails : Ends)
       → IsEndOf Heads raw costs choices bounds.second heads → IsEndOf Tails raw costs choices bounds.second tails

@@ -124,7 +124,3 @@ head_front_steps raw variable steps old inside h = omega (arith, h, front_slots_
 
 pub tail_front_steps : (raw : RawDiagram) (variable steps old : ℕ) → variable < length raw.domains → steps ≤ old + fronts.slots_from Tails raw (length raw.domains - (variable + 1)) → steps ≤ old + slots_again Tails raw variable
 tail_front_steps raw variable steps old inside h = omega (arith, h, front_slots_again raw Tails variable inside)
-
-pub ruleset pass_steps = (label_steps, front_steps)
-
-pub ruleset again_steps = (head_label_steps, tail_label_steps, head_front_steps, tail_front_steps)

@@ -11,7 +11,7 @@ use Rattle.pc_pareto.specs.declared.front_fault.FrontFault.{FrontFault}
 use Rattle.pc_pareto.specs.declared.front_fault.FrontFault.TheVariants as front
 use Rattle.pc_domains.specs.declared.board_fault.BoardFault.{BoardFault}
 use Rattle.pc_domains.specs.declared.board_fault.BoardFault.TheVariants.{LabelLimit, NoFit, NoMemory}
-use Rattle.pc_domains.specs.LabelLimits.{board_limit}
+use Rattle.pc_domains.specs.LabelLimits.{limit_under}
 
 -- a fault of fronts as one of boards
 abbrev pub fault_of_front : FrontFault → BoardFault
@@ -26,6 +26,6 @@ IsEndFault limit front.NoMemory = Unit {0}
 -- a limit that is told is the board's; no word is told to fit exactly where there is no limit and none fits; want of memory
 -- may come in any case
 abbrev pub IsBoardFault : RawDiagram → List (List CostPair) → List Choice → Bounds → BoardFault → Type 0
-IsBoardFault raw costs choices bounds (LabelLimit side layer) = board_limit raw costs choices bounds ≡ Some (side, layer)
-IsBoardFault raw costs choices bounds NoFit = (board_limit raw costs choices bounds ≡ None) × (fitting costs (words raw) choices bounds ≡ [])
+IsBoardFault raw costs choices bounds (LabelLimit side layer) = limit_under raw costs choices bounds.second ≡ Some (side, layer)
+IsBoardFault raw costs choices bounds NoFit = (limit_under raw costs choices bounds.second ≡ None) × (fitting costs (words raw) choices bounds ≡ [])
 IsBoardFault raw costs choices bounds NoMemory = Unit {0}

@@ -9,7 +9,7 @@ use Rattle.pc_diagram.specs.NodePaths.{AreCostsOf}
 use Rattle.pc_diagram.specs.Paths.{words}
 use Rattle.pc_domains.specs.declared.board.Board.{Board}
 use Rattle.pc_domains.specs.Ends.{IsEndOf}
-use Rattle.pc_domains.specs.LabelLimits.{board_limit}
+use Rattle.pc_domains.specs.LabelLimits.{limit_under}
 use Rattle.pc_domains.specs.Sides.{AreDistinctOf}
 
 -- a board over a canonical diagram and costs of its values: it has distinct choices of these and what is kept from both ends
@@ -20,5 +20,5 @@ pub record IsBoardOf (raw : RawDiagram) (costs : List (List CostPair)) (board : 
   pub choices_of : AreDistinctOf raw.domains board.choices
   pub heads : IsEndOf Heads raw costs board.choices board.bounds.second board.heads
   pub tails : IsEndOf Tails raw costs board.choices board.bounds.second board.tails
-  pub within : board_limit raw costs board.choices board.bounds ≡ None
+  pub within : limit_under raw costs board.choices board.bounds.second ≡ None
   pub fits : fitting costs (words raw) board.choices board.bounds ≢ []

@@ -1,7 +1,6 @@
 -- Where the fronts of a diagram have too many pairs.
 use Rattle.std.specs.Prelude.{ℕ, List, length, ℤ, Option, None, Some, option_map}
 use Rattle.std.specs.Option.{option_or}
-use Rattle.pc_diagram.specs.declared.bounds.Bounds.{Bounds}
 use Rattle.pc_diagram.specs.declared.choice.Choice.{Choice}
 use Rattle.pc_diagram.specs.declared.costs.CostPair.{CostPair}
 use Rattle.pc_diagram.specs.declared.raw_diagram.RawDiagram.{RawDiagram}
@@ -23,6 +22,6 @@ abbrev pub end_limit : Side → RawDiagram → List (List CostPair) → List Cho
 end_limit side raw costs choices None = None
 end_limit side raw costs choices (Some bound) = side_limit MOST_LABELS raw costs choices side
 
--- the limit of a board
-abbrev pub board_limit : RawDiagram → List (List CostPair) → List Choice → Bounds → Option (Side × ℕ)
-board_limit raw costs choices bounds = option_or (end_limit Heads raw costs choices bounds.second) (end_limit Tails raw costs choices bounds.second)
+-- the limit of both ends, the heads first, where they are asked for under a bound
+abbrev pub limit_under : RawDiagram → List (List CostPair) → List Choice → Option ℤ → Option (Side × ℕ)
+limit_under raw costs choices bound = option_or (end_limit Heads raw costs choices bound) (end_limit Tails raw costs choices bound)

@@ -1,12 +1,8 @@
 -- The least of a cost over the words that fit.
 use Rattle.std.specs.Prelude.{◌≡◌, ℕ, ◌<◌, ℤ, ◌≤ℤ◌, List, map, slice_index_or, true, false, Option, None, Some}
-use Rattle.std.specs.Option.{option_or}
 use Rattle.pc_diagram.specs.declared.bounds.Bounds.{Bounds}
-use Rattle.pc_diagram.specs.declared.choice.Choice.{Choice}
 use Rattle.pc_diagram.specs.declared.costs.CostPair.{CostPair}
-use Rattle.pc_diagram.specs.declared.raw_diagram.RawDiagram.{RawDiagram}
 use Rattle.pc_diagram.specs.declared.side.Side.{Side}
-use Rattle.pc_diagram.specs.declared.side.Side.TheVariants.{Heads, Tails}
 use Rattle.pc_diagram.specs.declared.which.Which.{Which}
 use Rattle.pc_diagram.specs.declared.which.Which.TheVariants.{First, Second}
 use Rattle.pc_diagram.specs.Bounds.{allows_pair}
@@ -16,16 +12,11 @@ use Rattle.pc_pareto.specs.Fronts.{no_item}
 use Rattle.pc_pareto.specs.Items.{pair_of}
 use Rattle.pc_domains.specs.declared.board_fault.BoardFault.{BoardFault}
 use Rattle.pc_domains.specs.declared.board_fault.BoardFault.TheVariants.{LabelLimit, NoFit, NoMemory}
-use Rattle.pc_domains.specs.LabelLimits.{end_limit}
 
 -- the bound on the other cost
 abbrev pub other_bound : Which → Bounds → Option ℤ
 other_bound First bounds = bounds.second
 other_bound Second bounds = bounds.first
-
--- the limit of the fronts that are asked for where the other cost has a bound
-abbrev pub least_limit : RawDiagram → List (List CostPair) → List Choice → Option ℤ → Option (Side × ℕ)
-least_limit raw costs choices other = option_or (end_limit Heads raw costs choices other) (end_limit Tails raw costs choices other)
 
 -- a limit that is told is that one; want of memory may come in any case, and nothing else is told
 abbrev pub IsLeastFault : Option (Side × ℕ) → BoardFault → Type 0

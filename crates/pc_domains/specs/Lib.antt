@@ -1,6 +1,7 @@
 pub mod BoardFaults
 pub mod Boards
 pub mod Ends
+pub mod Floors
 pub mod FrontPaths
 pub mod FrontWays
 pub mod Joins

@@ -9,6 +9,7 @@ ghost use Rattle.pc_diagram.specs.Diagram.{IsCanonical};
 ghost use Rattle.pc_diagram.specs.NodePaths.{AreChoicesOf, AreCostsOf};
 ghost use Rattle.pc_domains.specs.BoardFaults.{IsBoardFault};
 ghost use Rattle.pc_domains.specs.Boards.{IsBoardOf};
+ghost use Rattle.pc_domains.specs.Floors.{IsEndFloor};
 ghost use Rattle.pc_domains.specs.Sides.{AreDistinctOf, listed_of};
 ghost use Rattle.pc_labels.specs.Labels.{AgreeBeside};
 ghost use Rattle.pc_domains.specs.Slots.{slots_before, slots_of};
@@ -19,7 +20,7 @@ use crate::ends::Ends;
 use crate::front_listing::{item_of_front_way, listed_front_way};
 use crate::label_listing::{item_of_label_way, listed_label_way};
 use pc_base::{NoMemory, Sequence};
-use pc_diagram::{Bounds, Choices, Costs, Diagram, Listed, Listing, Side, Steps};
+use pc_diagram::{Bounds, Choices, CostPair, Costs, Diagram, Listed, Listing, Side, Steps};
 use std::alloc::Global;
 use std::sync::ledger::Ledger;
 
@@ -198,30 +199,7 @@ impl Board {
         ensures listed { IfOk result (λ item. item ≡ listed_of diagram.now costs.now self.now.choices self.now.bounds variable value) }
         ensures steps { steps.new ≤ steps.old + slice_index diagram.now.sizes variable }
     {
-        let (choices, bounds) = (&self.choices, &self.bounds);
-        match (&self.heads, &self.tails) {
-            (Ends::Least(heads), Ends::Least(tails)) => {
-                match listed_label_way(
-                    diagram, costs, choices, bounds, heads, tails, variable, value, steps,
-                ) {
-                    Some(way) => Ok(Some(item_of_label_way(
-                        alloc, heads, tails, variable, value, &way,
-                    )?)),
-                    None => Ok(None),
-                }
-            }
-            (Ends::Pairs(heads), Ends::Pairs(tails)) => {
-                match listed_front_way(
-                    diagram, costs, choices, bounds, heads, tails, variable, value, steps,
-                ) {
-                    Some(way) => Ok(Some(item_of_front_way(
-                        alloc, heads, tails, variable, value, &way,
-                    )?)),
-                    None => Ok(None),
-                }
-            }
-            _ => Ok(None),
-        }
+        self.item_above(alloc, diagram, costs, None, variable, value, steps)
     }
 
     /// Whether a value is listed. It takes no memory.
@@ -242,7 +220,7 @@ impl Board {
         let (choices, bounds) = (&self.choices, &self.bounds);
         match (&self.heads, &self.tails) {
             (Ends::Least(heads), Ends::Least(tails)) => listed_label_way(
-                diagram, costs, choices, bounds, heads, tails, variable, value, steps,
+                diagram, costs, choices, bounds, heads, tails, None, variable, value, steps,
             )
             .is_some(),
             (Ends::Pairs(heads), Ends::Pairs(tails)) => listed_front_way(
@@ -292,12 +270,59 @@ impl Board {
         ensures row { IfOk result (λ row. row ≡ items costs.now (fitting costs.now (words diagram.now) self.now.choices self.now.bounds) variable) }
         ensures steps { steps.new ≤ steps.old + domain * slice_index diagram.now.sizes variable }
     {
+        let floor = self.tails.floor(variable + 1, diagram.nodes(variable + 1));
         let mut row = Sequence::new(alloc);
         for value in 0..domain {
-            if let Some(item) = self.item(alloc, diagram, costs, variable, value, steps)? {
+            if let Some(item) = self.item_above(
+                alloc, diagram, costs, floor, variable, value, steps,
+            )? {
                 row.push(item)?;
             }
         }
         Ok(row)
+    }
+
+    /// What is listed of a value, if it is listed, where the least costs of the tails of its variable may be known.
+    fn item_above<L: Ledger>(
+        &self,
+        alloc: Global,
+        diagram: &Diagram,
+        costs: &Costs,
+        floor: Option<CostPair>,
+        variable: u32,
+        value: u32,
+        steps: &mut Steps<L>,
+    ) -> Result<Option<Listed>, NoMemory>
+        requires variable { variable < length diagram.now.domains }
+        requires value { value < slice_index diagram.now.domains variable }
+        requires board { IsBoardOf diagram.now costs.now self.now }
+        requires floor { IsEndFloor self.now.tails (variable + 1) floor }
+        ensures listed { IfOk result (λ item. item ≡ listed_of diagram.now costs.now self.now.choices self.now.bounds variable value) }
+        ensures steps { steps.new ≤ steps.old + slice_index diagram.now.sizes variable }
+    {
+        let (choices, bounds) = (&self.choices, &self.bounds);
+        match (&self.heads, &self.tails) {
+            (Ends::Least(heads), Ends::Least(tails)) => {
+                match listed_label_way(
+                    diagram, costs, choices, bounds, heads, tails, floor, variable, value, steps,
+                ) {
+                    Some(way) => Ok(Some(item_of_label_way(
+                        alloc, heads, tails, variable, value, &way,
+                    )?)),
+                    None => Ok(None),
+                }
+            }
+            (Ends::Pairs(heads), Ends::Pairs(tails)) => {
+                match listed_front_way(
+                    diagram, costs, choices, bounds, heads, tails, variable, value, steps,
+                ) {
+                    Some(way) => Ok(Some(item_of_front_way(
+                        alloc, heads, tails, variable, value, &way,
+                    )?)),
+                    None => Ok(None),
+                }
+            }
+            _ => Ok(None),
+        }
     }
 }

@@ -6,11 +6,13 @@ ghost use Rattle.pc_diagram.specs.Bounds.{allows_pair};
 ghost use Rattle.pc_diagram.specs.NodePaths.{AreChoicesOf, AreCostsOf};
 ghost use Rattle.pc_domains.specs.BoardFaults.{IsEndFault};
 ghost use Rattle.pc_domains.specs.Ends.{HasRoot, IsEndOf, WasEndOf, root_is_within};
+ghost use Rattle.pc_domains.specs.Floors.{HasSummedLayer, IsEndFloor};
 ghost use Rattle.pc_domains.specs.LabelLimits.{end_limit};
 ghost use Rattle.pc_pareto.specs.Items.{pair_of};
 ghost use Rattle.pc_domains.specs.Slots.{slots_again, slots_before};
 
 use crate::asked::keeps;
+use crate::floor::floor;
 use pc_diagram::{Bounds, Choices, CostPair, Costs, Diagram, Side, Steps};
 use pc_labels::{Labels, heads, tails};
 use pc_pareto::{FrontFault, FrontItem, Fronts, front_heads, front_tails};
@@ -32,7 +34,6 @@ impl Ends {
     /// # Errors
     ///
     /// The limit of the end's fronts, or want of memory.
-    #[tactic(auto, using(crate::proofs::SlotLemmas::pass_steps))]
     pub(crate) fn of<L: Ledger>(
         alloc: Global,
         side: Side,
@@ -67,7 +68,6 @@ impl Ends {
     /// # Errors
     ///
     /// The limit of the end's fronts, or want of memory.
-    #[tactic(auto, using(crate::proofs::SlotLemmas::again_steps))]
     pub(crate) fn again<L: Ledger>(
         &self,
         alloc: Global,
@@ -102,6 +102,17 @@ impl Ends {
                 Ends::Pairs(fronts.tails_again(alloc, diagram, choices, costs, variable, steps)?)
             }
         })
+    }
+
+    /// The least costs of a layer of so many nodes, where labels are kept and it has any.
+    pub(crate) fn floor(&self, layer: u32, count: u32) -> Option<CostPair>
+        requires { HasSummedLayer self.now layer count }
+        ensures { IsEndFloor self.now layer result }
+    {
+        match self {
+            Ends::Least(labels) => floor(labels, layer, count),
+            Ends::Pairs(_) => None,
+        }
     }
 
     /// Whether a path that is kept of the root, of those to the end, is within the bounds.

@@ -1,8 +1,9 @@
 //! What is listed of a value, by labels.
 
-ghost use Rattle.std.specs.Prelude.{◌≡◌, ◌<◌, ◌≤◌, ◌+◌, length, slice_index, None, IfOk, IsSome};
+ghost use Rattle.std.specs.Prelude.{◌≡◌, ◌<◌, ◌≤◌, ◌+◌, length, slice_index, None, IfOk, IfSome, IsSome};
 ghost use Rattle.pc_diagram.specs.declared.limits.TheConstants.{MOST_VARIABLES};
 ghost use Rattle.pc_diagram.specs.NodePaths.{AreCostsOf};
+ghost use Rattle.pc_domains.specs.Floors.{IsFloor};
 ghost use Rattle.pc_domains.specs.LabelWays.{word_of_label_way};
 ghost use Rattle.pc_domains.specs.ListedWays.{TellsByLabels, item_of_label_way};
 ghost use Rattle.pc_domains.specs.Sides.{IsAsked, listed_of};
@@ -12,13 +13,13 @@ ghost use Rattle.pc_labels.specs.Labels.{AreHeads, AreTails};
 use crate::asked::{allows_value, keeps, price_of};
 use crate::label_way::{LabelWay, least_label_way};
 use pc_base::NoMemory;
-use pc_diagram::{Bounds, Choices, Costs, Diagram, Listed, Steps, Word};
+use pc_diagram::{Bounds, Choices, CostPair, Costs, Diagram, Listed, Steps, Word};
 use pc_labels::Labels;
 use std::alloc::Global;
 use std::sync::ledger::Ledger;
 
 /// The way whose word is listed of a value, by the labels of both ends with the same choices, where the second cost has no
-/// bound; none where the value isn't listed. It takes no memory.
+/// bound; none where the value isn't listed. The least costs of the tails may be known. It takes no memory.
 pub(crate) fn listed_label_way<L: Ledger>(
     diagram: &Diagram,
     costs: &Costs,
@@ -26,6 +27,7 @@ pub(crate) fn listed_label_way<L: Ledger>(
     bounds: &Bounds,
     heads: &Labels,
     tails: &Labels,
+    floor: Option<CostPair>,
     variable: u32,
     value: u32,
     steps: &mut Steps<L>,
@@ -37,6 +39,7 @@ pub(crate) fn listed_label_way<L: Ledger>(
     requires alone { bounds.now.second ≡ None }
     requires heads { AreHeads diagram.now choices.now costs.now heads.now }
     requires tails { AreTails diagram.now choices.now costs.now tails.now }
+    requires floor { IfSome floor (IsFloor tails.now (variable + 1)) }
     ensures tells { TellsByLabels (listed_of diagram.now costs.now choices.now bounds.now variable value) heads.now tails.now variable value result }
     ensures steps { steps.new ≤ steps.old + slice_index diagram.now.sizes variable }
 {
@@ -44,7 +47,8 @@ pub(crate) fn listed_label_way<L: Ledger>(
         return None;
     }
     let price = price_of(costs, variable, value);
-    let Some(way) = least_label_way(diagram, heads, tails, price, variable, value, steps) else {
+    let Some(way) = least_label_way(diagram, heads, tails, price, floor, variable, value, steps)
+    else {
         return None;
     };
     if !keeps(bounds, &way.ranked.pair) {

@@ -3,9 +3,11 @@
 ghost use Rattle.std.specs.Prelude.{◌≡◌, ◌<◌, ◌≤◌, ◌+◌, length, slice_index, IfSome, None};
 ghost use Rattle.pc_diagram.specs.Costs.{IsPricePair};
 ghost use Rattle.pc_diagram.specs.Weight.{plus_pair};
+ghost use Rattle.pc_domains.specs.Floors.{IsFloor};
 ghost use Rattle.pc_domains.specs.Joins.{IsSumPair};
 ghost use Rattle.pc_domains.specs.LabelWays.{AreLinkable, IsLeastLabelWay, lesser_label_way, linked};
 
+use crate::floor::can_win;
 use crate::join::{is_less, sum};
 use pc_diagram::{CostPair, Diagram, Ranked, Steps, Weight};
 use pc_labels::Labels;
@@ -19,12 +21,14 @@ pub struct LabelWay {
     pub ranked: Ranked,
 }
 
-/// The least way through an edge of a value that costs so much, if there is any.
+/// The least way through an edge of a value that costs so much, if there is any. A node isn't looked at whose head with the
+/// least costs of the tails, where these are known, is no less than the way so far.
 pub fn least_label_way<L: Ledger>(
     diagram: &Diagram,
     heads: &Labels,
     tails: &Labels,
     price: CostPair,
+    floor: Option<CostPair>,
     variable: u32,
     value: u32,
     steps: &mut Steps<L>,
@@ -33,18 +37,18 @@ pub fn least_label_way<L: Ledger>(
     requires value { value < slice_index diagram.now.domains variable }
     requires price { IsPricePair price }
     requires labels { AreLinkable diagram.now variable heads.now tails.now }
+    requires floor { IfSome floor (IsFloor tails.now (variable + 1)) }
     ensures way { IsLeastLabelWay diagram.now variable value heads.now tails.now price (slice_index diagram.now.sizes variable) result }
     ensures steps { steps.new ≤ steps.old + slice_index diagram.now.sizes variable }
 {
     let mut least: Option<LabelWay> = None;
     for node in 0..diagram.nodes(variable) {
-        if let Some(target) = diagram.edge(variable, node, value, steps) {
-            let link = linked(
-                heads.weight(variable, node),
-                price,
-                tails.weight(variable + 1, target),
-            );
-            least = lesser(least, node, target, link);
+        let head = heads.weight(variable, node);
+        if can_win(head, price, floor, least) {
+            if let Some(target) = diagram.edge(variable, node, value, steps) {
+                let link = linked(head, price, tails.weight(variable + 1, target));
+                least = lesser(least, node, target, link);
+            }
         }
     }
     least
@@ -63,7 +67,8 @@ fn linked(head: Weight, price: CostPair, tail: Weight) -> Option<Ranked>
     }
 }
 
-fn joined(head: Ranked, price: CostPair, tail: Ranked) -> Ranked
+/// The two paths with the value between them.
+pub(crate) fn joined(head: Ranked, price: CostPair, tail: Ranked) -> Ranked
     requires head { IsSumPair head.pair }
     requires price { IsPricePair price }
     requires tail { IsSumPair tail.pair }

@@ -1,15 +1,19 @@
 //! Laws of the definitions. Each function's contract is a law; nothing calls them.
 
-ghost use Rattle.std.specs.Prelude.{◌≡◌, ℕ, ◌+◌, ◌-◌, List, [], length, Contains, Option, Some, None, true, false};
+ghost use Rattle.std.specs.Prelude.{◌≡◌, ℕ, ◌+◌, ◌-◌, pos, List, [], ◌∷◌, length, Contains, Option, Some, None, true, false};
 ghost use Rattle.pc_diagram.specs.declared.bounds.Bounds.{Bounds};
 ghost use Rattle.pc_diagram.specs.declared.choice.Choice.{Choice};
 ghost use Rattle.pc_diagram.specs.declared.costs.CostPair.{CostPair};
 ghost use Rattle.pc_diagram.specs.declared.raw_diagram.RawDiagram.{RawDiagram};
 ghost use Rattle.pc_diagram.specs.declared.side.Side.TheVariants.{Heads, Tails};
-ghost use Rattle.pc_diagram.specs.Bounds.{allows_pair};
+ghost use Rattle.pc_diagram.specs.declared.which.Which.TheVariants.{First, Second};
+ghost use Rattle.pc_diagram.specs.Bike.{bike_costs, line, three, two_days};
+ghost use Rattle.pc_diagram.specs.BikeDiagram.{bike_diagram, carbon};
+ghost use Rattle.pc_diagram.specs.Bounds.{allows_pair, no_bounds};
 ghost use Rattle.pc_diagram.specs.Choices.{value_of};
 ghost use Rattle.pc_diagram.specs.Diagram.{IsCanonical};
 ghost use Rattle.pc_diagram.specs.Fitting.{fitting};
+ghost use Rattle.pc_diagram.specs.Least.{least_cost};
 ghost use Rattle.pc_diagram.specs.Listing.{listed};
 ghost use Rattle.pc_diagram.specs.NodePaths.{is_allowed, is_tail};
 ghost use Rattle.pc_diagram.specs.Paths.{words};
@@ -19,9 +23,32 @@ ghost use Rattle.pc_pareto.specs.declared.front_item.FrontItem.{FrontItem};
 ghost use Rattle.pc_pareto.specs.Fronts.{AreFronts};
 ghost use Rattle.pc_domains.specs.FrontPaths.{kept_by_fronts};
 ghost use Rattle.pc_domains.specs.LabelPaths.{kept_by_labels};
+ghost use Rattle.pc_domains.specs.LabelLimits.{label_limit};
 ghost use Rattle.pc_domains.specs.Orders.{IsAtMost, IsNoDearer};
 ghost use Rattle.pc_domains.specs.Sides.{AreDistinctOf, AreSides, IsAllowedWay, IsAsked, IsLeastWay, listed_of};
+ghost use Rattle.pc_domains.specs.Slots.{slots_again, slots_before};
 ghost use Rattle.pc_domains.specs.Ways.{Keeps, Kept, Way, joined_word};
+
+/// On the bikes, by evaluation: how many slots there are, and how many lie on either side of the wheel; and where so many pairs
+/// are too many, without choices and with a frame chosen.
+pub fn bikes_have_slots_and_limits()
+    ensures slots { slots_before bike_diagram 3 ≡ 13 }
+    ensures from_wheel { slots_again Heads bike_diagram 1 ≡ 10 }
+    ensures to_wheel { slots_again Tails bike_diagram 1 ≡ 9 }
+    ensures heads { label_limit 7 bike_diagram bike_costs [] ≡ Some (Heads, 3) }
+    ensures tails { label_limit 5 bike_diagram bike_costs (carbon ∷ []) ≡ Some (Tails, 1) }
+    ensures enough { label_limit 8 bike_diagram bike_costs [] ≡ None }
+{}
+
+/// On the bikes, by evaluation: the least of each cost over those that fit, and what is listed of a wheel and of a frame where at
+/// most two days are allowed.
+pub fn bikes_have_least_costs()
+    ensures first { least_cost First bike_costs (fitting bike_costs (words bike_diagram) [] two_days) ≡ Some (pos 580) }
+    ensures second { least_cost Second bike_costs (fitting bike_costs (words bike_diagram) [] no_bounds) ≡ Some (pos 2) }
+    ensures none { least_cost First bike_costs (fitting bike_costs (words bike_diagram) (carbon ∷ []) two_days) ≡ None }
+    ensures wheel { listed_of bike_diagram bike_costs [] two_days 1 1 ≡ Some (line 1 620 2 (three 1 1 0)) }
+    ensures frame { listed_of bike_diagram bike_costs [] two_days 0 0 ≡ None }
+{}
 
 /// Where the cheapest paths are kept on either side of a variable, and the second cost has no bound, what is listed of a
 /// value is the word of the least way through an edge of it; and nothing, where the bounds allow no way.

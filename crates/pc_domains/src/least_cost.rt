@@ -1,6 +1,6 @@
 //! The least of a cost over the words that fit.
 
-ghost use Rattle.std.specs.Prelude.{◌≡◌, length, None, IfOk, IfErr, OnOk};
+ghost use Rattle.std.specs.Prelude.{◌≡◌, ◌+◌, ◌*◌, ◌≤◌, length, None, IfOk, IfErr, OnOk};
 ghost use Rattle.pc_diagram.specs.declared.which.Which.TheVariants.{First};
 ghost use Rattle.pc_diagram.specs.Costs.{part};
 ghost use Rattle.pc_diagram.specs.Diagram.{IsCanonical};
@@ -9,10 +9,11 @@ ghost use Rattle.pc_diagram.specs.Least.{least_cost, lesser};
 ghost use Rattle.pc_diagram.specs.NodePaths.{AreChoicesOf, AreCostsOf};
 ghost use Rattle.pc_diagram.specs.Paths.{words};
 ghost use Rattle.pc_domains.specs.BoardFaults.{IsEndFault};
-ghost use Rattle.pc_domains.specs.LabelLimits.{label_limit};
-ghost use Rattle.pc_domains.specs.Least.{IsLeastFault, IsLeastItem, least_limit, other_bound};
+ghost use Rattle.pc_domains.specs.LabelLimits.{label_limit, limit_under};
+ghost use Rattle.pc_domains.specs.Least.{IsLeastFault, IsLeastItem, other_bound};
 ghost use Rattle.pc_pareto.specs.Items.{pair_of};
 ghost use Rattle.pc_domains.specs.Sides.{AreDistinctOf};
+ghost use Rattle.pc_domains.specs.Slots.{slots_before};
 ghost use Rattle.pc_pareto.specs.declared.limits.TheConstants.{MOST_LABELS};
 
 use crate::asked::{keeps, kept_of};
@@ -43,8 +44,9 @@ pub fn least<L: Ledger>(
     requires costs { AreCostsOf diagram.now.domains costs.now }
     requires choices { AreChoicesOf diagram.now.domains choices.now }
     ensures least { IfOk result (λ least. least ≡ least_cost which costs.now (fitting costs.now (words diagram.now) choices.now bounds.now)) }
-    ensures within { OnOk result (least_limit diagram.now costs.now choices.now (other_bound which bounds.now) ≡ None) }
-    ensures fault { IfErr result (IsLeastFault (least_limit diagram.now costs.now choices.now (other_bound which bounds.now))) }
+    ensures within { OnOk result (limit_under diagram.now costs.now choices.now (other_bound which bounds.now) ≡ None) }
+    ensures fault { IfErr result (IsLeastFault (limit_under diagram.now costs.now choices.now (other_bound which bounds.now))) }
+    ensures steps { steps.new ≤ steps.old + 2 * slots_before diagram.now (length diagram.now.domains) }
 {
     kept_of(diagram, choices);
     match (which, bounds.first, bounds.second) {
@@ -73,7 +75,8 @@ fn least_by_labels<L: Ledger>(
     requires costs { AreCostsOf diagram.now.domains costs.now }
     requires choices { AreDistinctOf diagram.now.domains choices.now }
     requires alone { bounds.now.second ≡ None }
-    ensures { IfOk result (λ least. least ≡ least_cost First costs.now (fitting costs.now (words diagram.now) choices.now bounds.now)) }
+    ensures least { IfOk result (λ least. least ≡ least_cost First costs.now (fitting costs.now (words diagram.now) choices.now bounds.now)) }
+    ensures steps { steps.new ≤ steps.old + slots_before diagram.now (length diagram.now.domains) }
 {
     let labels = tails(alloc, diagram, choices, costs, steps)?;
     let Some(label) = labels.at(0, 0) else {
@@ -105,6 +108,7 @@ fn least_by_fronts<L: Ledger>(
     ensures least { IfOk result (λ least. least ≡ least_cost which costs.now (fitting costs.now (words diagram.now) choices.now bounds.now)) }
     ensures within { OnOk result (label_limit MOST_LABELS diagram.now costs.now choices.now ≡ None) }
     ensures fault { IfErr result (IsEndFault (label_limit MOST_LABELS diagram.now costs.now choices.now)) }
+    ensures steps { steps.new ≤ steps.old + 2 * slots_before diagram.now (length diagram.now.domains) }
 {
     front_heads(alloc, diagram, choices, costs, steps)?;
     let fronts = front_tails(alloc, diagram, choices, costs, steps)?;

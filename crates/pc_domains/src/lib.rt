@@ -7,6 +7,7 @@ mod asked;
 mod board;
 mod board_fault;
 mod ends;
+mod floor;
 mod front_listing;
 mod front_way;
 mod join;

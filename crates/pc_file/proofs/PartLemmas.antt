@@ -3,7 +3,7 @@ use Rattle.std.proofs.Common.{◌≡◌, ℕ, Bool, not, ◌||◌, List, [], ◌
 use Rattle.std.specs.List.{flat_map}
 use Rattle.pc_file.specs.declared.variable.Variable.{Variable}
 use Rattle.pc_file.specs.declared.rule.Rule.{Rule, Rule-F, fold-Rule, fold-roll-Rule, fold_out-Rule, map-Rule}
-use Rattle.pc_file.specs.declared.rule.Rule.TheVariants.{Is, IsNot, OneOf, Not, And, Or, Implies, Same, AtMost, Table, rolls-Is, rolls-IsNot, rolls-OneOf, rolls-Not, rolls-And, rolls-Or, rolls-Implies, rolls-Same, rolls-AtMost, rolls-Table}
+use Rattle.pc_file.specs.declared.rule.Rule.TheVariants.{rolls-Is, rolls-IsNot, rolls-OneOf, rolls-Not, rolls-And, rolls-Or, rolls-Implies, rolls-Same, rolls-AtMost, rolls-Table}
 use Rattle.pc_file.specs.declared.rule.Rule.TheViews.{out-Rule}
 use Rattle.pc_file.specs.Rule.{holds, holds_step}
 use Rattle.pc_file.specs.Parts.{Parts, with_itself, subrules, parts_step, members_of, parts_before, parts_of}

@@ -1,6 +1,8 @@
 -- The parts of a file's rules, in the order in which their sets of words are made, and the first whose set is too large.
-use Rattle.std.specs.Prelude.{◌≡◌, ℕ, ◌+◌, nat_lt, ◌&&◌, Bool, true, false, List, [], ◌∷◌, ◌++◌, Some, take, slice_get}
-use Rattle.std.specs.List.{flat_map, list_any}
+use Rattle.std.specs.Prelude.{◌≡◌, ℕ, ◌+◌, nat_lt, ◌&&◌, Bool, true, List, [], ◌∷◌, ◌++◌, Option, None, Some, option_map, position}
+use Rattle.std.specs.List.{flat_map}
+use Rattle.std.specs.Option.{option_or}
+use Rattle.pc_diagram.specs.declared.limits.TheConstants.{MOST_NODES}
 use Rattle.pc_diagram.specs.Rests.{size}
 use Rattle.pc_diagram.specs.Words.{is_word}
 use Rattle.pc_file.specs.declared.variable.Variable.{Variable}
@@ -9,6 +11,7 @@ use Rattle.pc_file.specs.declared.rule.Rule.TheOpen.{Rule-F, Is, IsNot, OneOf, N
 use Rattle.pc_file.specs.declared.rule.Rule.TheFolds.{fold-Rule}
 use Rattle.pc_file.specs.declared.rule.Rule.TheViews.{out-Rule}
 use Rattle.pc_file.specs.Contents.{Contents}
+use Rattle.pc_file.specs.Full.{full_domains}
 use Rattle.pc_file.specs.Rule.{holds_step, holds}
 
 -- a rule with what comes before it: for which words it holds, and for which the parts of its subrules
@@ -65,24 +68,25 @@ compile_list file = sets_of file.variables (λ word. true) file.rules
 abbrev pub is_too_large : ℕ → List ℕ → (List ℕ → Bool) → Bool
 is_too_large most domains test = nat_lt most (size domains (λ word. is_word domains word && test word))
 
--- what stands at a place passes a test, and nothing before it does
-pub record IsFirst {X : Type 0} (test : X → Bool) (items : List X) (place : ℕ) (item : X) : Type 0 where
-  pub stands : slice_get items place ≡ Some item
-  pub passes : test item ≡ true
-  pub none_before : list_any test (take place items) ≡ false
+-- where the first set of more nodes than are allowed stands: its rule, counted on from this number, and its part
+abbrev pub node_limit_from : ℕ → ℕ → List ℕ → List (List (List ℕ → Bool)) → Option (ℕ × ℕ)
+node_limit_from rule most domains [] = None
+node_limit_from rule most domains (sets ∷ made) =
+    option_or (option_map (λ place. (rule, place + 1)) (position (is_too_large most domains) sets))
+    (node_limit_from (rule + 1) most domains made)
 
--- of the sets that are made, rule by rule, the first of more nodes than are allowed is that of this part of this rule,
--- both counted from 1
-pub record IsNodeLimit (most : ℕ) (domains : List ℕ) (made : List (List (List ℕ → Bool))) (rule part : ℕ) : Type 0 where
-  pub rule_place : ℕ
-  pub part_place : ℕ
-  pub sets : List (List ℕ → Bool)
-  pub set : List ℕ → Bool
-  pub rule_is : rule ≡ rule_place + 1
-  pub part_is : part ≡ part_place + 1
-  pub first_rule : IsFirst (list_any (is_too_large most domains)) made rule_place sets
-  pub first_part : IsFirst (is_too_large most domains) sets part_place set
+-- the rule and the part, both counted from 1, of the first set of more nodes than are allowed; None where there is none
+abbrev pub node_limit : ℕ → List ℕ → List (List (List ℕ → Bool)) → Option (ℕ × ℕ)
+node_limit most domains made = node_limit_from 1 most domains made
+
+-- the first set of more nodes than are allowed is that of this part of this rule
+abbrev pub IsNodeLimit : ℕ → List ℕ → List (List (List ℕ → Bool)) → ℕ → ℕ → Type 0
+IsNodeLimit most domains made rule part = node_limit most domains made ≡ Some (rule, part)
 
 -- none of the sets that are made has more nodes than are allowed
 abbrev pub HasNoNodeLimit : ℕ → List ℕ → List (List (List ℕ → Bool)) → Type 0
-HasNoNodeLimit most domains made = list_any (list_any (is_too_large most domains)) made ≡ false
+HasNoNodeLimit most domains made = node_limit most domains made ≡ None
+
+-- the rule and the part at which compiling a file meets the limit of nodes
+abbrev pub file_node_limit : Contents → Option (ℕ × ℕ)
+file_node_limit file = node_limit MOST_NODES (full_domains file) (compile_list file)

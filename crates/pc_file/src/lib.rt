@@ -30,7 +30,7 @@ pub use printed_lines::{
     cost_line_size, end_line_size, header_line_size, rule_line_size, value_line_size,
     variable_line_size, with_line,
 };
-pub use products::{PlainFault, has_too_many_words, plain_products};
+pub use products::{PlainFault, plain_products};
 pub use rule::Rule;
 pub use shared_file::SharedFile;
 pub use sizes::{

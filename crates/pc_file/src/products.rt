@@ -50,7 +50,7 @@ pub fn plain_products(alloc: Global, file: &File) -> Result<Sequence<Word>, Plai
 }
 
 /// Whether the numbers of values multiply to more than `MOST_WORDS`.
-pub fn has_too_many_words(file: &File) -> bool
+fn has_too_many_words(file: &File) -> bool
     ensures { IsTrue result ↔ (MOST_WORDS < words_of file.now) }
 {
     word_count(file.variables()).is_none()

@@ -1,14 +1,14 @@
 -- The script of a visit to the bike: its lines and its history by evaluation, its text by what it spells.
-use Rattle.std.proofs.Common.{◌≡◌, ℕ, Bool, true, false, List, [], ◌∷◌, ◌++◌, length, nat_lt, Ok, refl, sym, ap, ◌∙◌}
+use Rattle.std.proofs.Common.{◌≡◌, ℕ, Bool, true, List, [], ◌∷◌, ◌++◌, length, Option, None, Ok, refl, sym, ap, ◌∙◌}
 use Rattle.std.specs.Prelude.{codes, not, nat_le, ◌==◌}
 use Rattle.pc_base.specs.Lines.{lines}
 use Rattle.pc_diagram.specs.Bike.{bikes}
 use Rattle.pc_file.specs.Bike.{bike, bike_printed}
 use Rattle.pc_file.specs.Limits.{Contents}
 use Rattle.pc_file.specs.PrintedForm.{text_of_lines}
-use Rattle.pc_file.specs.Products.{products, value_counts, word_count, words_of}
+use Rattle.pc_file.specs.Full.{full}
+use Rattle.pc_file.specs.Parts.{file_node_limit}
 use Rattle.pc_file.proofs.BikeLemmas.{bike_is_file, bike_products, bike_text}
-use Rattle.pc_text.specs.TooManyWords.{has_too_many_words, too_many_words_at}
 use Rattle.pc_text.specs.FirstFault.{given_by}
 use Rattle.pc_text.specs.Given.{contents_given}
 use Rattle.pc_text.specs.Spells.{Spells}
@@ -16,8 +16,8 @@ use Rattle.pc_text.proofs.PrintedSpells.{written_spells}
 use Rattle.pc_text.proofs.SpelledHasNoFault.{spelled_has_no_fault}
 use Rattle.pc_calls.specs.declared.call.Call.TheVariants.{Enter, Open, Publish, Leave}
 use Rattle.pc_calls.specs.declared.entry.Entry.{Entry}
-use Rattle.pc_calls.specs.declared.outcome.Outcome.TheVariants.{NoProduct, Stale, ShelvesFull}
-use Rattle.pc_calls.specs.Decision.{Decision, ◌>>◌, refused_where}
+use Rattle.pc_calls.specs.declared.outcome.Outcome.TheVariants.{NodeLimit, NoProduct, Stale, ShelvesFull}
+use Rattle.pc_calls.specs.Decision.{Decision, ◌>>◌, refused_by, refused_where}
 use Rattle.pc_calls.specs.CommandLine.{command_of, arguments, command_line}
 use Rattle.pc_calls.specs.CommandReader.{word_of_kind, end}
 use Rattle.pc_calls.specs.Heads.{head_by}
@@ -29,7 +29,7 @@ use Rattle.pc_calls.specs.Step.{after, step, state_of}
 use Rattle.pc_names.specs.Number.{int_of}
 use Rattle.pc_conn.specs.declared.body.Body.TheVariants.{File}
 use Rattle.pc_conn.specs.declared.item.Item.TheVariants as item
-use Rattle.pc_conn.specs.BodyText.{body_of, body_by, sound_body}
+use Rattle.pc_conn.specs.BodyText.{body_of, body_by}
 use Rattle.std.specs.Fmt.{digits}
 use Rattle.pc_script.specs.declared.item.Awaited.{Awaited}
 use Rattle.pc_script.specs.declared.item.Heard.TheVariants as says
@@ -37,6 +37,7 @@ use Rattle.pc_script.specs.declared.item.Said.{Said}
 use Rattle.pc_script.specs.Heard.{caller_of, heard, said_with}
 use Rattle.pc_script.specs.Script.{commanded, publishing, beginning, heard_after, said_after, said_of}
 use Rattle.pc_script.specs.ScriptHistory.{said_once, said_in, said_entries, entries_from, leaving, script_items, script_history, with_leaves}
+use Rattle.pc_script.proofs.BikeLimit.{bike_small}
 use Rattle.pc_script.specs.BikeScript.{bike_script, bike_items, bike_history}
 
 -- the lines of the bike's text
@@ -70,17 +71,15 @@ script_lines = refl
 text_lines : text_of_lines bike_lines ≡ bike_printed
 text_lines = refl
 
--- a text that spells a file with few words gives that file
-body_spelled : (text : List ℕ) (file : Contents) → Spells text file → nat_lt 65536 (words_of file) ≡ false → body_of text ≡ File file
+-- a text that spells a file gives that file
+body_spelled : (text : List ℕ) (file : Contents) → Spells text file → body_of text ≡ File file
 unfolding body_of
-body_spelled text file spells few =
+body_spelled text file spells =
     let read = spelled_has_no_fault text file spells in
-    ap (λ fault. body_by fault (sound_body (has_too_many_words (given_by text)) (too_many_words_at text) (contents_given (given_by text)))) read.0
-    ∙ ap (λ (f : Contents). sound_body (nat_lt 65536 (word_count (value_counts f.variables))) (too_many_words_at text) f) read.1
-    ∙ ap (λ too_many. sound_body too_many (too_many_words_at text) file) few
+    ap (λ fault. body_by fault (contents_given (given_by text))) read.0 ∙ ap (λ (f : Contents). File f) read.1
 
 bike_body : body_of (text_of_lines bike_lines) ≡ File bike
-bike_body = ap body_of text_lines ∙ body_spelled bike_printed bike (written_spells bike_printed bike (sym bike_text) bike_is_file refl) refl
+bike_body = ap body_of text_lines ∙ body_spelled bike_printed bike (written_spells bike_printed bike (sym bike_text) bike_is_file refl)
 
 -- the publish that the first line announces
 abbrev awaited : Awaited
@@ -101,16 +100,17 @@ said_first : (later : List (List ℕ))
 unfolding said_in
 said_first later = ap (λ said. said_once said ++ said_in (heard_after empty said) (bike_lines ++ later)) announced
 
--- a file that has these products is published and opened
-module _ (file : Contents) (some : products file ≡ bikes) where
+-- a file that has these products, and of which no set is too large, is published and opened
+module _ (file : Contents) (some : full file ≡ bikes) (small : file_node_limit file ≡ None) where
   abbrev one_caller : State
   one_caller = after 1 Enter empty
 
   abbrev one_version : State
   one_version = record { versions = record { file = file; live = true } ∷ []; callers = one_caller.callers; sessions = [] }
 
-  offered : Bool → Decision State
-  offered none = do
+  offered : Option (ℕ × ℕ) → Bool → Decision State
+  offered limit none = do
+    refused_by limit (λ l. NodeLimit l.0 l.1)
     refused_where none NoProduct
     refused_where (not (0 == current one_caller)) (Stale (current one_caller))
     refused_where (nat_le MOST_LIVE (live_versions one_caller)) ShelvesFull
@@ -118,7 +118,7 @@ module _ (file : Contents) (some : products file ≡ bikes) where
 
   published : step 1 (Publish 0 file) one_caller ≡ Ok one_version
   unfolding offered
-  published = ap offered (ap (λ words. length words == 0) some)
+  published = ap (λ limit. offered limit (length (full file) == 0)) small ∙ ap (λ words. offered None (length words == 0)) some
 
   -- what is said after it
   said_last : said_in (commanded (said_after empty (said_with awaited (File file)))) last_lines ≡ record { caller = 1; item = item.Call Open } ∷ record { caller = 1; item = item.Bad 3 } ∷ []
@@ -158,8 +158,8 @@ pub bike_said : script_items bike_script ≡ bike_items
 bike_said =
     ap (said_in beginning) script_lines ∙ said_first last_lines ∙ taken last_lines
     ∙ ap (λ body. said_with awaited body ∷ said_in (commanded (said_after empty (said_with awaited body))) last_lines) bike_body
-    ∙ ap (λ later. said_with awaited (File bike) ∷ later) (said_last bike bike_products)
+    ∙ ap (λ later. said_with awaited (File bike) ∷ later) (said_last bike bike_products bike_small)
 
 pub bike_recorded : script_history bike_script ≡ bike_history
 unfolding publish three_entries first_two
-bike_recorded = ap (λ items. with_leaves (entries_from empty items)) bike_said ∙ ap with_leaves (recorded bike bike_products) ∙ left bike bike_products
+bike_recorded = ap (λ items. with_leaves (entries_from empty items)) bike_said ∙ ap with_leaves (recorded bike bike_products bike_small) ∙ left bike bike_products bike_small

@@ -10,7 +10,7 @@ use Rattle.pc_io.specs.Took.{Moment, Took, Stopped}
 use Rattle.pc_io.proofs.TookLemmas.{took_nothing, took_on, took_both, stopped_at}
 use Rattle.pc_calls.specs.State.{State}
 use Rattle.pc_conn.specs.declared.body.Body.{Body}
-use Rattle.pc_conn.specs.declared.body.Body.TheVariants.{File, Fault, NotBuilt, Cut}
+use Rattle.pc_conn.specs.declared.body.Body.TheVariants.{File, Fault, Cut}
 use Rattle.pc_conn.specs.declared.body_fault.BodyFault.{BodyFault}
 use Rattle.pc_conn.specs.declared.body_fault.BodyFault.TheVariants as body
 use Rattle.pc_conn.specs.Reading.{ReadsBody, GivesBody, IsStopped}
@@ -82,7 +82,6 @@ pub hears_body : (state : State) (awaited : Awaited) (body : Body) (line bytes :
     → ReadsBody awaited.publish.lines (Ok body) mid after → HearsTurn state (said_with awaited body) (turn_after body) before after
 hears_body state awaited (File file) line bytes before mid after e took stays calm reads = given-body state awaited (File file) line bytes before mid after e took stays calm reads
 hears_body state awaited (Fault number kind) line bytes before mid after e took stays calm reads = given-body state awaited (Fault number kind) line bytes before mid after e took stays calm reads
-hears_body state awaited (NotBuilt number) line bytes before mid after e took stays calm reads = given-body state awaited (NotBuilt number) line bytes before mid after e took stays calm reads
 hears_body state awaited Cut line bytes before mid after e took stays calm reads = record {
   taken = line ∷ reads.taken;
   bytes = bytes ++ reads.bytes;

@@ -35,8 +35,8 @@ may-any state caller call.Open calls present = present
 may-any state caller (call.Show session) calls present = present
 may-any state caller (call.Choose session variable value) calls present = present
 may-any state caller (call.Retract session variable) calls present = present
-may-any state caller (call.Bound session cost most) never present = absurd never
-may-any state caller (call.Unbound session cost) never present = absurd never
+may-any state caller (call.Bound session cost most) calls present = present
+may-any state caller (call.Unbound session cost) calls present = present
 may-any state caller (call.Rebase session version dropping) never present = absurd never
 may-any state caller (call.Close session) calls present = present
 may-any state caller (call.Publish base file) calls present = present
@@ -103,7 +103,6 @@ item-legal state caller (item.Call one) speaks =
     (one-legal (entered state caller) caller one (may-any (entered state caller) caller one speaks.1 (speaker-present state caller speaks.0))))
 item-legal state caller (item.Bad column) speaks = none-legal state
 item-legal state caller (item.Fault line kind) speaks = none-legal state
-item-legal state caller (item.NotBuilt line) speaks = none-legal state
 
 -- the entries of what is said and of all that is said later
 more-legal : (state : State) (said : Said) (later : List Said) → Speaks state said.caller said.item → IsLegalFrom (said_after state said) (entries_from (said_after state said) later) → IsLegalFrom state (entries_from state (said ∷ later))

@@ -1,4 +1,5 @@
 pub mod AnswerLemmas
+pub mod BikeLimit
 pub mod BikeScripts
 pub mod Bodies
 pub mod HeardNext

@@ -16,14 +16,6 @@ not-later (word ∷ words) first rest e later known =
     let t : is_later (command_of word.bytes) ≡ true = ap (λ (b : List ℕ). is_later (command_of b)) same ∙ later in
     cc
 
-bound-later : is_later (command_of (codes "bound")) ≡ true
-unfolding command_of
-bound-later = refl
-
-unbound-later : is_later (command_of (codes "unbound")) ≡ true
-unfolding command_of
-unbound-later = refl
-
 rebase-later : is_later (command_of (codes "rebase")) ≡ true
 unfolding command_of
 rebase-later = refl
@@ -42,8 +34,8 @@ made_by call.Open words sayable e known = tt
 made_by (call.Show session) words sayable e known = tt
 made_by (call.Choose session variable value) words sayable e known = tt
 made_by (call.Retract session variable) words sayable e known = tt
-made_by (call.Bound session cost most) words sayable e known = absurd (not-later words _ _ e bound-later known)
-made_by (call.Unbound session cost) words sayable e known = absurd (not-later words _ _ e unbound-later known)
+made_by (call.Bound session cost most) words sayable e known = tt
+made_by (call.Unbound session cost) words sayable e known = tt
 made_by (call.Rebase session version true) words sayable e known = absurd (not-later words _ _ e rebase-later known)
 made_by (call.Rebase session version false) words sayable e known = absurd (not-later words _ _ e rebase-later known)
 made_by (call.Close session) words sayable e known = tt

@@ -42,7 +42,6 @@ item-state state caller (item.Call call) =
     ∙ one-entry (entered state caller) (entry_of (entered state caller) caller call)
 item-state state caller (item.Bad column) = no-entry state
 item-state state caller (item.Fault line kind) = no-entry state
-item-state state caller (item.NotBuilt line) = no-entry state
 
 pub said-state : (state : State) (said : Said) → after_entries state (said_entries state said) ≡ said_after state said
 said-state state said = item-state state said.caller said.item

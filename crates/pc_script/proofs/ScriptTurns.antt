@@ -35,8 +35,6 @@ state_at (publishing state awaited lines) = state
 -- an item is no enter, and has its row
 abbrev pub IsSpoken : Call → Type 0
 IsSpoken call.Enter = ⊥
-IsSpoken (call.Bound session cost most) = ⊥
-IsSpoken (call.Unbound session cost) = ⊥
 IsSpoken (call.Rebase session version dropping) = ⊥
 IsSpoken (call.Reclaim version) = ⊥
 IsSpoken call.Versions = ⊥
@@ -67,7 +65,6 @@ Turns script line = TurnsTo (state_at script) (line_text script line) (line_said
 published-speaks : (state : State) (awaited : Awaited) (told : Body) → may_speak state awaited.caller ≡ true → Speaks state awaited.caller (said_with awaited told).item
 published-speaks state awaited (body.File file) may = (may, tt)
 published-speaks state awaited (body.Fault line kind) may = tt
-published-speaks state awaited (body.NotBuilt line) may = tt
 published-speaks state awaited body.Cut may = tt
 
 -- the lines of its text are all there, or not yet
@@ -85,8 +82,8 @@ spoken call.Open made = tt
 spoken (call.Show session) made = tt
 spoken (call.Choose session variable value) made = tt
 spoken (call.Retract session variable) made = tt
-spoken (call.Bound session cost most) made = made
-spoken (call.Unbound session cost) made = made
+spoken (call.Bound session cost most) made = tt
+spoken (call.Unbound session cost) made = tt
 spoken (call.Rebase session version dropping) made = made
 spoken (call.Close session) made = tt
 spoken (call.Publish base file) made = tt

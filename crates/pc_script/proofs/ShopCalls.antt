@@ -8,13 +8,16 @@ use Rattle.pc_calls.specs.declared.outcome.Outcome.{Outcome}
 use Rattle.pc_calls.specs.declared.outcome.Outcome.TheVariants.{Done, NoSession}
 use Rattle.pc_calls.specs.declared.reply.Reply.{Reply}
 use Rattle.pc_calls.specs.declared.call.Call.{Call}
-use Rattle.pc_calls.specs.declared.call.Call.TheVariants.{Show, Choose, Retract}
+use Rattle.pc_calls.specs.declared.call.Call.TheVariants.{Show}
 use Rattle.pc_calls.specs.Decision.{Decision, ◌>>=◌, required}
 use Rattle.pc_calls.specs.Heads.{head_by, is_shown, reply, session_told, shown_by, shown_of, version_told}
-use Rattle.pc_calls.specs.Selection.{Selection, choose, retract, show, shown}
+use Rattle.pc_calls.specs.Selection.{Selection, show, shown}
 use Rattle.pc_calls.specs.State.{OpenSession, State, numbered, file_of, is_session, session_of, version_in}
 use Rattle.pc_calls.specs.Step.{after, asking, change_first, step, in_session, state_of, with_selection}
 use Rattle.pc_session.specs.Visit.{Visit, visit_after}
+use Rattle.pc_script.specs.declared.change.Change.{Change}
+use Rattle.pc_script.specs.declared.change.Change.TheVariants.{Choose, Retract, Bound, Unbound}
+use Rattle.pc_script.specs.Change.{change_call, changed}
 use Rattle.pc_script.specs.ShopState.{IsPinned, callers_by, on_shelf, owned, state_by}
 use Rattle.pc_script.specs.Visits.{has_number, plain_head, reply_at, reply_among, visit_reply, visits_after}
 
@@ -202,8 +205,8 @@ module _ (files : List Contents) (entered left : Bool) (opened : ℕ) (visits : 
 pub is_show : (number : ℕ) (here : State) → IsOwn (Show number) number show here
 is_show number here = record { gives = refl; told = λ result. refl; versioned = λ result. refl; does_show = refl }
 
-pub is_choose : (number : ℕ) (variable value : List ℕ) (here : State) → IsOwn (Choose number variable value) number (choose variable value) here
-is_choose number variable value here = record { gives = refl; told = λ result. refl; versioned = λ result. refl; does_show = refl }
-
-pub is_retract : (number : ℕ) (variable : List ℕ) (here : State) → IsOwn (Retract number variable) number (retract variable) here
-is_retract number variable here = record { gives = refl; told = λ result. refl; versioned = λ result. refl; does_show = refl }
+pub is_change : (number : ℕ) (change : Change) (here : State) → IsOwn (change_call number change) number (changed change) here
+is_change number (Choose variable value) here = record { gives = refl; told = λ result. refl; versioned = λ result. refl; does_show = refl }
+is_change number (Retract variable) here = record { gives = refl; told = λ result. refl; versioned = λ result. refl; does_show = refl }
+is_change number (Bound cost most) here = record { gives = refl; told = λ result. refl; versioned = λ result. refl; does_show = refl }
+is_change number (Unbound cost) here = record { gives = refl; told = λ result. refl; versioned = λ result. refl; does_show = refl }

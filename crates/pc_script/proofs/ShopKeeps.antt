@@ -1,13 +1,15 @@
 -- What a shop keeps of its sessions and versions from call to call.
 use Rattle.std.proofs.Common.{◌≡◌, ℕ, zero, suc, ◌+◌, ◌-◌, ◌<◌, ◌≤◌, ◌==◌, Bool, true, false, cond, List, [], ◌∷◌, ◌++◌, length, Some, None, Ok, Err, slice_get, All, refl, sym, subst, ap, ◌∙◌, arith}
 use Rattle.std.specs.Prelude.{Result, IfOk, OnOk, OnErr}
+use Rattle.std.proofs.lemmas.List.{length-map, map-append}
 use Rattle.std.proofs.lemmas.List.Elements.{All-head, All-tail, All-nil, All-cons, All-append}
 use Rattle.pc_file.specs.Limits.{Contents}
 use Rattle.pc_calls.specs.Decision.{Decision}
 use Rattle.pc_calls.specs.Selection.{Selection, show}
 use Rattle.pc_calls.specs.State.{numbered}
 use Rattle.pc_session.specs.Visit.{Visit, visit_after}
-use Rattle.pc_script.specs.ShopState.{IsPinned, callers_by}
+use Rattle.pc_build.specs.declared.version.Version as compiled
+use Rattle.pc_script.specs.ShopState.{IsPinned, callers_by, files_of}
 use Rattle.pc_script.specs.Visits.{visits_after, without_number}
 
 kept-after : (P : Visit → Type 0) → ((visit : Visit) (result : Decision Selection) → P visit → P (visit_after visit result)) → (number : ℕ) (ask : Contents → Selection → Decision Selection) (visits : List Visit) → All P visits → All P (visits_after number ask visits)
@@ -65,12 +67,33 @@ pinned_more files more visits all = kept-implied (IsPinned files) (IsPinned (fil
 pub low_more : (opened : ℕ) (visits : List Visit) → All (λ v. v.number ≤ opened) visits → All (λ v. v.number ≤ opened + 1) visits
 low_more opened visits all = kept-implied (λ v. v.number ≤ opened) (λ v. v.number ≤ opened + 1) (λ visit low. omega (arith, low)) visits all
 
--- the last version is that of the greatest number
-pub numbered_last : (files : List Contents) (file : Contents) → slice_get files (length files - 1) ≡ Some file → numbered files (length files) ≡ Some file
-numbered_last [] file e = absurd cc
-numbered_last (f ∷ files) file e =
-    let place : length (f ∷ files) - 1 ≡ length files = omega arith in
-    ap (slice_get (f ∷ files)) (sym place) ∙ e
+-- there is one at each place
+some-at : {X : Type 0} (xs : List X) (place : ℕ) → place < length xs → slice_get xs place ≡ None → ⊥
+some-at [] place inside e = absurd (omega arith)
+some-at (x ∷ xs) zero inside e = cc
+some-at (x ∷ xs) (suc place) inside e = some-at xs place (omega (arith, inside)) e
+
+file-at : (versions : List compiled.Version) (place : ℕ) (version : compiled.Version) → slice_get versions place ≡ Some version → slice_get (files_of versions) place ≡ Some version.file
+file-at [] place version e = absurd cc
+file-at (v ∷ versions) zero version e = let same : v ≡ version = cc in ap (λ (w : compiled.Version). Some w.file) same
+file-at (v ∷ versions) (suc place) version e = file-at versions place version e
+
+-- The last version is that of the greatest number.
+pub numbered_last : (versions : List compiled.Version) (version : compiled.Version) → slice_get versions (length versions - 1) ≡ Some version
+    → (0 < length (files_of versions)) × (length versions ≡ length (files_of versions)) × (numbered (files_of versions) (length versions) ≡ Some version.file)
+numbered_last [] version e = absurd cc
+numbered_last (v ∷ versions) version e =
+    let place : length (v ∷ versions) - 1 ≡ length versions = omega arith in
+    (omega arith, sym (length-map (v ∷ versions) (λ w. w.file)), file-at (v ∷ versions) (length versions) version (ap (slice_get (v ∷ versions)) (sym place) ∙ e))
+
+-- one version more
+pub files_more : (versions : List compiled.Version) (version : compiled.Version) → files_of (versions ++ version ∷ []) ≡ files_of versions ++ version.file ∷ []
+files_more versions version = map-append (λ v. v.file) versions (version ∷ [])
+
+-- there is none where nothing was published
+pub none_last : (versions : List compiled.Version) → slice_get versions (length versions - 1) ≡ None → length (files_of versions) ≡ 0
+none_last [] e = refl
+none_last (v ∷ versions) e = absurd (some-at (v ∷ versions) (length (v ∷ versions) - 1) (omega arith) e)
 
 -- what both outcomes of a call keep
 pub either_kept : {A E : Type 0} (result : Result A E) (P : List Visit → Type 0) (old later new : List Visit) → OnOk result (new ≡ later) → OnErr result (new ≡ old) → P old → P later → P new
@@ -100,18 +123,6 @@ shown_leaves number (visit ∷ visits) =
 pub is_inside : (entered left : Bool) (opened : ℕ) → length (callers_by entered left opened) ≡ 1 → entered ≡ true
 is_inside true left opened e = refl
 is_inside false left opened e = absurd cc
-
--- what all have, one at a place has
-pub has_at : {X : Type 0} (P : X → Type 0) (xs : List X) (place : ℕ) (x : X) → All P xs → slice_get xs place ≡ Some x → P x
-has_at P [] place x all e = absurd cc
-has_at P (y ∷ ys) zero x all e = let same : y ≡ x = cc in subst P same (All-head P y ys all)
-has_at P (y ∷ ys) (suc place) x all e = has_at P ys place x (All-tail P y ys all) e
-
--- there is one at each place
-pub some_at : {X : Type 0} (xs : List X) (place : ℕ) → place < length xs → slice_get xs place ≡ None → ⊥
-some_at [] place inside e = absurd (omega arith)
-some_at (x ∷ xs) zero inside e = cc
-some_at (x ∷ xs) (suc place) inside e = some_at xs place (omega (arith, inside)) e
 
 -- what both outcomes of an open keep
 pub open_keeps : {A E : Type 0} (result : Result A E) (files : List Contents) (opened opened_now : ℕ) (visits visits_now : List Visit) (new : Visit)

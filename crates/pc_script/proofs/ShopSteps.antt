@@ -1,18 +1,19 @@
 -- The shared calls of a shop with one caller, against the definition of a step.
-use Rattle.std.proofs.Common.{◌≡◌, ℕ, suc, ◌+◌, ◌<◌, ◌≤◌, ◌==◌, nat_le, Bool, true, false, not, cond, List, [], ◌∷◌, ◌++◌, length, map, filter, find, Option, Some, None, Ok, Err, option_map, All, refl, sym, ap, ◌∙◌, arith, length-append}
+use Rattle.std.proofs.Common.{◌≡◌, ◌≢◌, ℕ, suc, ◌+◌, ◌<◌, ◌≤◌, ◌==◌, nat_le, Bool, true, false, not, cond, List, [], ◌∷◌, ◌++◌, length, map, filter, find, Option, Some, None, Ok, Err, option_map, All, refl, sym, ap, ◌∙◌, arith, length-append}
 use Rattle.std.specs.Prelude.{count_by, option_and_then, unwrap_or}
 use Rattle.std.proofs.lemmas.Bool.Decides.{nat_tests}
 use Rattle.std.proofs.lemmas.List.{map-append}
 use Rattle.std.proofs.lemmas.List.Elements.{All-head, All-tail}
 use Rattle.std.proofs.lemmas.List.Sums.{sum_by-cons}
 use Rattle.pc_file.specs.Limits.{Contents}
-use Rattle.pc_file.specs.Products.{products}
+use Rattle.pc_file.specs.Full.{full}
+use Rattle.pc_file.specs.Parts.{file_node_limit}
 use Rattle.pc_calls.specs.declared.call.Call.{Call}
 use Rattle.pc_calls.specs.declared.call.Call.TheVariants.{Open, Close, Publish, Leave}
 use Rattle.pc_calls.specs.declared.outcome.Outcome.{Outcome}
-use Rattle.pc_calls.specs.declared.outcome.Outcome.TheVariants.{Done, NoSession, NoVersion, SessionsFull, NoProduct, Stale, ShelvesFull}
+use Rattle.pc_calls.specs.declared.outcome.Outcome.TheVariants.{Done, NodeLimit, NoSession, NoVersion, SessionsFull, NoProduct, Stale, ShelvesFull}
 use Rattle.pc_calls.specs.declared.reply.Reply.{Reply}
-use Rattle.pc_calls.specs.Decision.{Decision, ◌>>=◌, ◌>>◌, refused_where, required}
+use Rattle.pc_calls.specs.Decision.{Decision, ◌>>=◌, ◌>>◌, refused_by, refused_where, required}
 use Rattle.pc_calls.specs.Heads.{head_by, reply, shown_by}
 use Rattle.pc_calls.specs.Selection.{Selection, free, shown}
 use Rattle.pc_calls.specs.State.{OpenSession, State, Version, current, live_versions, open_sessions, opened_by, is_owned, is_session, file_of}
@@ -165,43 +166,34 @@ module _ (files : List Contents) (entered left : Bool) (opened : ℕ) (visits : 
   abbrev published : Contents → State
   published file = record { versions = map on_shelf files ++ on_shelf file ∷ []; callers = callers_by entered left opened; sessions = map owned visits }
 
-  abbrev publish_by : Bool → Bool → Bool → Contents → Decision State
-  publish_by none other full file = refused_where none NoProduct >> (refused_where other (Stale (current now)) >> (refused_where full ShelvesFull >> Ok (published file)))
+  abbrev publish_by : Option (ℕ × ℕ) → Bool → Bool → Bool → Contents → Decision State
+  publish_by limit none other full file =
+      refused_by limit (λ l. NodeLimit l.0 l.1) >> (refused_where none NoProduct >> (refused_where other (Stale (current now)) >> (refused_where full ShelvesFull >> Ok (published file))))
 
-  -- publish
-  pub publish_empty : (base : ℕ) (file : Contents) → length (products file) ≡ 0 → (reply 1 (Publish base file) now ≡ refusal_of 0 0 NoProduct) × (after 1 (Publish base file) now ≡ now)
-  publish_empty base file none =
-      let gives : step 1 (Publish base file) now ≡ Err NoProduct = ap (λ (b : Bool). publish_by b (not (base == current now)) (nat_le 32 (live_versions now)) file) (let t : (length (products file) == 0) ≡ true = grind (arith, nat_tests, none) in t) in
-      (ap (reply_by (Publish base file) now) gives, ap (state_of now) gives)
+  some-words : (words : List (List ℕ)) → words ≢ [] → (length words == 0) ≡ false
+  some-words [] some = absurd (some refl)
+  some-words (word ∷ words) some = let t : (length (word ∷ words) == 0) ≡ false = grind (arith, nat_tests) in t
 
-  some-product : (file : Contents) → 1 ≤ length (products file) → (length (products file) == 0) ≡ false
-  some-product file some = grind (arith, nat_tests, some)
-
-  pub publish_stale : (base : ℕ) (file : Contents) → 1 ≤ length (products file) → (base == length files) ≡ false → (reply 1 (Publish base file) now ≡ refusal_of 0 0 (Stale (length files))) × (after 1 (Publish base file) now ≡ now)
-  publish_stale base file some other =
-      let gives : step 1 (Publish base file) now ≡ Err (Stale (length files)) =
-      ap (λ (b : Bool). publish_by b (not (base == current now)) (nat_le 32 (live_versions now)) file) (some-product file some)
-      ∙ ap (λ (n : ℕ). refused_where (not (base == n)) (Stale n) >> (refused_where (nat_le 32 (live_versions now)) ShelvesFull >> Ok (published file))) (length-shelf files)
-      ∙ ap (λ (b : Bool). refused_where (not b) (Stale (length files)) >> (refused_where (nat_le 32 (live_versions now)) ShelvesFull >> Ok (published file))) other in
-      (ap (reply_by (Publish base file) now) gives, ap (state_of now) gives)
-
-  current-base : (base : ℕ) (file : Contents) → 1 ≤ length (products file) → (base == length files) ≡ true → step 1 (Publish base file) now ≡ (refused_where (nat_le 32 (live_versions now)) ShelvesFull >> Ok (published file))
-  current-base base file some same =
-      ap (λ (b : Bool). publish_by b (not (base == current now)) (nat_le 32 (live_versions now)) file) (some-product file some)
+  -- publish over the current version, where no set that is made of the file has too many nodes, and some product is left
+  current-base : (base : ℕ) (file : Contents) → file_node_limit file ≡ None → full file ≢ [] → (base == length files) ≡ true → step 1 (Publish base file) now ≡ (refused_where (nat_le 32 (live_versions now)) ShelvesFull >> Ok (published file))
+  current-base base file small some same =
+      ap (λ (limit : Option (ℕ × ℕ)). publish_by limit (length (full file) == 0) (not (base == current now)) (nat_le 32 (live_versions now)) file) small
+      ∙ ap (λ (b : Bool). publish_by None b (not (base == current now)) (nat_le 32 (live_versions now)) file) (some-words (full file) some)
       ∙ ap (λ (n : ℕ). refused_where (not (base == n)) (Stale n) >> (refused_where (nat_le 32 (live_versions now)) ShelvesFull >> Ok (published file))) (length-shelf files)
       ∙ ap (λ (b : Bool). refused_where (not b) (Stale (length files)) >> (refused_where (nat_le 32 (live_versions now)) ShelvesFull >> Ok (published file))) same
 
-  pub publish_full : (base : ℕ) (file : Contents) → 1 ≤ length (products file) → (base == length files) ≡ true → 32 ≤ length files → (reply 1 (Publish base file) now ≡ refusal_of 0 0 ShelvesFull) × (after 1 (Publish base file) now ≡ now)
-  publish_full base file some same full =
+  pub publish_full : (base : ℕ) (file : Contents) → file_node_limit file ≡ None → full file ≢ [] → (base == length files) ≡ true → 32 ≤ length files
+      → (reply 1 (Publish base file) now ≡ refusal_of 0 0 ShelvesFull) × (after 1 (Publish base file) now ≡ now)
+  publish_full base file small some same full =
       let gives : step 1 (Publish base file) now ≡ Err ShelvesFull =
-      current-base base file some same ∙ ap (λ (b : Bool). refused_where b ShelvesFull >> Ok (published file)) (let n = live-shelf files in let t : nat_le 32 (live_versions now) ≡ true = grind (arith, nat_tests, n, full) in t) in
+      current-base base file small some same ∙ ap (λ (b : Bool). refused_where b ShelvesFull >> Ok (published file)) (let n = live-shelf files in let t : nat_le 32 (live_versions now) ≡ true = grind (arith, nat_tests, n, full) in t) in
       (ap (reply_by (Publish base file) now) gives, ap (state_of now) gives)
 
-  pub publish_done : (base : ℕ) (file : Contents) → 1 ≤ length (products file) → (base == length files) ≡ true → length files < 32
+  pub publish_done : (base : ℕ) (file : Contents) → file_node_limit file ≡ None → full file ≢ [] → (base == length files) ≡ true → length files < 32
       → (reply 1 (Publish base file) now ≡ refusal_of 0 (length files + 1) Done) × (after 1 (Publish base file) now ≡ state_by (files ++ file ∷ []) entered left opened visits)
-  publish_done base file some same few =
+  publish_done base file small some same few =
       let gives : step 1 (Publish base file) now ≡ Ok (published file) =
-      current-base base file some same ∙ ap (λ (b : Bool). refused_where b ShelvesFull >> Ok (published file)) (let n = live-shelf files in let t : nat_le 32 (live_versions now) ≡ false = grind (arith, nat_tests, n, few) in t) in
+      current-base base file small some same ∙ ap (λ (b : Bool). refused_where b ShelvesFull >> Ok (published file)) (let n = live-shelf files in let t : nat_le 32 (live_versions now) ≡ false = grind (arith, nat_tests, n, few) in t) in
       let count : length (map on_shelf files ++ on_shelf file ∷ []) ≡ length files + 1 = length-append (map on_shelf files) (on_shelf file ∷ []) ∙ ap (λ (n : ℕ). n + 1) (length-shelf files) in (
         ap (reply_by (Publish base file) now) gives ∙ ap (λ (n : ℕ). refusal_of 0 n Done) count,
         ap (state_of now) gives ∙ ap (λ (vs : List Version). record { versions = vs; callers = callers_by entered left opened; sessions = map owned visits }) (sym (map-append on_shelf files (file ∷ []))),

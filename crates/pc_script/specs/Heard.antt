@@ -38,8 +38,6 @@ caller_of state word = only_if (may_speak state) (unsigned_of word)
 
 -- commands that a script doesn't know yet
 abbrev pub is_later : Option Command → Bool
-is_later (Some command.Bound) = true
-is_later (Some command.Unbound) = true
 is_later (Some command.Rebase) = true
 is_later (Some command.Reclaim) = true
 is_later (Some command.Versions) = true

@@ -1,4 +1,5 @@
 pub mod BikeScript
+pub mod Change
 pub mod EndBy
 pub mod Heard
 pub mod Made

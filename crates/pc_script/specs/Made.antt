@@ -1,9 +1,7 @@
 -- The calls that a script makes.
-use Rattle.std.specs.Prelude.{◌≡◌, ℕ, ◌≤◌, ⊤, Bool, false, List, [], ◌∷◌}
-use Rattle.pc_file.specs.declared.sizes.TheConstants.{MOST_WORDS}
-use Rattle.pc_file.specs.Products.{words_of}
+use Rattle.std.specs.Prelude.{◌≡◌, ℕ, ⊤, Bool, false, List, [], ◌∷◌}
 use Rattle.pc_calls.specs.declared.call.Call.{Call}
-use Rattle.pc_calls.specs.declared.call.Call.TheVariants.{Open, Show, Choose, Retract, Close, Publish, Leave}
+use Rattle.pc_calls.specs.declared.call.Call.TheVariants.{Open, Show, Choose, Retract, Bound, Unbound, Close, Publish, Leave}
 use Rattle.pc_calls.specs.CommandLine.{command_of}
 use Rattle.pc_calls.specs.LineWords.{LineWord}
 use Rattle.pc_conn.specs.declared.item.Item.{Item}
@@ -13,14 +11,16 @@ use Rattle.pc_script.specs.declared.item.Heard.{Heard}
 use Rattle.pc_script.specs.declared.item.Heard.TheVariants as says
 use Rattle.pc_script.specs.declared.item.Said.{Said}
 
--- a call that a script makes; a published file has few enough words for the plain list
+-- a call that a script makes
 abbrev pub IsMadeCall : Call → Type 0
 IsMadeCall Open = ⊤
 IsMadeCall (Show session) = ⊤
 IsMadeCall (Choose session variable value) = ⊤
 IsMadeCall (Retract session variable) = ⊤
+IsMadeCall (Bound session cost most) = ⊤
+IsMadeCall (Unbound session cost) = ⊤
 IsMadeCall (Close session) = ⊤
-IsMadeCall (Publish base file) = words_of file ≤ MOST_WORDS
+IsMadeCall (Publish base file) = ⊤
 IsMadeCall Leave = ⊤
 IsMadeCall call = ⊥
 

@@ -1,10 +1,13 @@
 -- The state of a shop with one caller.
-use Rattle.std.specs.Prelude.{◌≡◌, ℕ, ◌≤◌, Bool, true, if◌then◌else◌, List, [], ◌∷◌, map, length, Some}
-use Rattle.pc_file.specs.declared.sizes.TheConstants.{MOST_WORDS}
-use Rattle.pc_file.specs.Limits.{Contents}
-use Rattle.pc_file.specs.Products.{products, words_of}
+use Rattle.std.specs.Prelude.{◌≡◌, ℕ, Bool, true, if◌then◌else◌, List, [], ◌∷◌, map, Some}
+use Rattle.pc_file.specs.Contents.{Contents}
+use Rattle.pc_build.specs.declared.version.Version as compiled
 use Rattle.pc_calls.specs.State.{Caller, OpenSession, State, Version, numbered}
 use Rattle.pc_session.specs.Visit.{Visit}
+
+-- the files of compiled versions
+abbrev pub files_of : List compiled.Version → List Contents
+files_of versions = map (λ v. v.file) versions
 
 -- a version that is live
 abbrev pub on_shelf : Contents → Version
@@ -20,10 +23,6 @@ callers_by entered left opened = if entered then record { opened = opened; left 
 
 abbrev pub state_by : List Contents → Bool → Bool → ℕ → List Visit → State
 state_by files entered left opened visits = record { versions = map on_shelf files; callers = callers_by entered left opened; sessions = map owned visits }
-
--- a file on the shelf has a product and few enough words for the plain list
-abbrev pub IsShelved : Contents → Type 0
-IsShelved file = (words_of file ≤ MOST_WORDS) × (1 ≤ length (products file))
 
 -- the file of a session is that of its version
 abbrev pub IsPinned : List Contents → Visit → Type 0

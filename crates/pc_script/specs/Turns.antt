@@ -9,7 +9,7 @@ use Rattle.pc_io.specs.Took.{Moment, Took, Stopped}
 use Rattle.pc_io.specs.Told.{GrewByPart}
 use Rattle.pc_calls.specs.State.{State}
 use Rattle.pc_conn.specs.declared.body.Body.{Body}
-use Rattle.pc_conn.specs.declared.body.Body.TheVariants.{File, Fault, NotBuilt, Cut}
+use Rattle.pc_conn.specs.declared.body.Body.TheVariants.{File, Fault, Cut}
 use Rattle.pc_script.specs.declared.item.Said.{Said}
 use Rattle.pc_script.specs.declared.script_end.ScriptEnd.{ScriptEnd}
 use Rattle.pc_script.specs.declared.script_end.ScriptEnd.TheVariants.{Ended, ReadFault, WriteFault, TooLong, NoMemory}
@@ -73,7 +73,6 @@ Hears state (Err NoMemory) before after = Unit {0}
 abbrev pub turn_after : Body → Turn
 turn_after (File file) = Going
 turn_after (Fault line kind) = Going
-turn_after (NotBuilt line) = Going
 turn_after Cut = Last
 
 -- the whole text was written, or a part of it, or nothing

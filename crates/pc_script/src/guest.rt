@@ -2,18 +2,21 @@
 
 ghost use Rattle.std.specs.Prelude.{◌≡◌, ◌==◌, ◌<◌, ◌≤◌, ◌+◌, ◌^◌, ◌++◌, ◌∷◌, [], not, filter, length, position, find, IfOk, OnOk, OnErr, IfSome, Some, None, Ok, Err};
 ghost use Rattle.pc_calls.specs.declared.outcome.Outcome.TheVariants.{Done};
-ghost use Rattle.pc_calls.specs.Selection.{choose, free, retract, show, shown};
-ghost use Rattle.pc_file.specs.declared.sizes.TheConstants.{MOST_WORDS};
-ghost use Rattle.pc_file.specs.Products.{products, words_of};
+ghost use Rattle.pc_calls.specs.Selection.{free, show, shown};
+ghost use Rattle.pc_session.specs.Visit.{answer_to, visit_after};
+ghost use Rattle.pc_script.specs.Change.{changed};
 ghost use Rattle.pc_script.specs.Visits.{has_number, no_session_reply, plain_head, close_reply, reply_among, shown_with, visits_after, without_number};
 
+use crate::change::Change;
 use pc_base::{NoMemory, Sequence};
+use pc_build::SharedVersion;
 use pc_calls::{Head, Outcome, Reply, Shown};
-use pc_diagram::Listing;
+use pc_diagram::{Listing, Steps};
 use pc_file::SharedFile;
-use pc_names::Name;
 use pc_session::{Answer, Session};
 use std::alloc::Global;
+use std::marker::Brand;
+use std::sync::ledger::{Blank, Ledger};
 
 /// The sessions that a caller has open, in the order in which they were opened, and how many it has opened.
 #[derive(Debug, Drop)]
@@ -76,6 +79,28 @@ fn place(sessions: &[Session], number: u64) -> Option<usize>
         .position(|session| session.number() == number)
 }
 
+/// What a session answers to a change, whose steps are counted here alone.
+fn changed<L: Ledger>(
+    session: &mut Session,
+    change: Change,
+    blank: Blank,
+) -> Result<Answer, NoMemory>
+    requires name { blank.name ≡ L.name }
+    requires parts { blank.parts ≡ L.parts }
+    requires some { 0 < blank.parts }
+    ensures answer { IfOk result (λ answer. answer ≡ answer_to session.old.file (changed change session.old.file session.old.selection)) }
+    ensures session { OnOk result (session.new ≡ visit_after session.old (changed change session.old.file session.old.selection)) }
+    ensures kept { OnErr result (session.new ≡ session.old) }
+{
+    let mut steps = Steps::<L>::new(blank);
+    match change {
+        Change::Choose { variable, value } => session.choose(&variable, &value, &mut steps),
+        Change::Retract { variable } => session.retract(&variable, &mut steps),
+        Change::Bound { cost, most } => session.bound(&cost, most),
+        Change::Unbound { cost } => session.unbound(&cost),
+    }
+}
+
 impl Guest {
     /// How many sessions are open.
     pub fn count(&self) -> usize
@@ -84,18 +109,16 @@ impl Guest {
         self.sessions.as_slice().len()
     }
 
-    /// Opens a session at a version with its file, which has a product and at most 65,536 words.
-    pub fn open(&mut self, version: u64, file: SharedFile) -> Result<Reply, NoMemory>
-        requires few { words_of file ≤ MOST_WORDS }
-        requires product { 1 ≤ length (products file) }
+    /// Opens a session at a version, which has this number.
+    pub fn open(&mut self, version_number: u64, version: SharedVersion) -> Result<Reply, NoMemory>
         requires room { self.old.opened < 2 ^ 63 }
-        ensures reply { IfOk result (λ reply. reply ≡ record { head = plain_head (self.old.opened + 1) version Done; shown = Some (record { file = file; listing = shown file free }) }) }
-        ensures sessions { OnOk result (self.new.sessions.items ≡ self.old.sessions.items ++ record { number = self.old.opened + 1; version = version; file = file; selection = free } ∷ []) }
+        ensures reply { IfOk result (λ reply. reply ≡ record { head = plain_head (self.old.opened + 1) version_number Done; shown = Some (record { file = version.file; listing = shown version.file free }) }) }
+        ensures sessions { OnOk result (self.new.sessions.items ≡ self.old.sessions.items ++ record { number = self.old.opened + 1; version = version_number; file = version.file; selection = free } ∷ []) }
         ensures opened { OnOk result (self.new.opened ≡ self.old.opened + 1) }
         ensures kept { OnErr result ((self.new.sessions.items ≡ self.old.sessions.items) × (self.new.opened ≡ self.old.opened)) }
     {
         let number = self.opened + 1;
-        let (session, listing) = Session::start(self.alloc, number, file, version)?;
+        let (session, listing) = Session::start(self.alloc, number, version, version_number)?;
         let shown = Shown {
             file: session.file().share()?,
             listing,
@@ -103,7 +126,7 @@ impl Guest {
         self.sessions.push(session)?;
         self.opened = number;
         Ok(Reply {
-            head: plain_head(self.alloc, number, version, Outcome::Done),
+            head: plain_head(self.alloc, number, version_number, Outcome::Done),
             shown: Some(shown),
         })
     }
@@ -124,10 +147,10 @@ impl Guest {
         Ok(replied(self.alloc, session, file, answer))
     }
 
-    /// Chooses a value in a session.
-    pub fn choose(&mut self, number: u64, variable: &Name, value: &Name) -> Result<Reply, NoMemory>
-        ensures reply { IfOk result (λ reply. reply ≡ reply_among number (choose variable.now value.now) self.old.sessions.items) }
-        ensures sessions { OnOk result (self.new.sessions.items ≡ visits_after number (choose variable.now value.now) self.old.sessions.items) }
+    /// Changes what a session asks.
+    pub fn change(&mut self, number: u64, change: Change) -> Result<Reply, NoMemory>
+        ensures reply { IfOk result (λ reply. reply ≡ reply_among number (changed change) self.old.sessions.items) }
+        ensures sessions { OnOk result (self.new.sessions.items ≡ visits_after number (changed change) self.old.sessions.items) }
         ensures kept { OnErr result (self.new.sessions.items ≡ self.old.sessions.items) }
         ensures opened { self.new.opened ≡ self.old.opened }
     {
@@ -136,23 +159,7 @@ impl Guest {
         };
         let session = &mut self.sessions[place];
         let file = session.file().share()?;
-        let answer = session.choose(variable, value)?;
-        Ok(replied(self.alloc, session, file, answer))
-    }
-
-    /// Takes back a choice in a session.
-    pub fn retract(&mut self, number: u64, variable: &Name) -> Result<Reply, NoMemory>
-        ensures reply { IfOk result (λ reply. reply ≡ reply_among number (retract variable.now) self.old.sessions.items) }
-        ensures sessions { OnOk result (self.new.sessions.items ≡ visits_after number (retract variable.now) self.old.sessions.items) }
-        ensures kept { OnErr result (self.new.sessions.items ≡ self.old.sessions.items) }
-        ensures opened { self.new.opened ≡ self.old.opened }
-    {
-        let Some(place) = place(self.sessions.as_slice(), number) else {
-            return Ok(refused(self.alloc, number, 0, Outcome::NoSession));
-        };
-        let session = &mut self.sessions[place];
-        let file = session.file().share()?;
-        let answer = session.retract(variable)?;
+        let answer = changed::<Brand>(session, change, Blank::new(1))?;
         Ok(replied(self.alloc, session, file, answer))
     }
 

@@ -40,14 +40,13 @@ impl Heard {
 
 impl Awaited {
     ghost use Rattle.std.specs.Prelude.{◌≡◌};
-    ghost use Rattle.pc_conn.specs.BodyText.{HasFewWords};
     ghost use Rattle.pc_script.specs.Heard.{said_with};
     ghost use Rattle.pc_script.specs.Made.{IsMade};
 
     /// What the publish says with its text.
     pub fn with(self, body: Body) -> Said
         ensures said { result ≡ said_with self body }
-        ensures made { self.caller ≡ 1 → HasFewWords body → IsMade result }
+        ensures made { self.caller ≡ 1 → IsMade result }
     {
         Said {
             caller: self.caller,

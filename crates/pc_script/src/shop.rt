@@ -1,30 +1,31 @@
 //! The state of a script: the published versions, and the one caller with its sessions.
 
-ghost use Rattle.std.specs.Prelude.{◌≡◌, ℕ, ◌<◌, ◌≤◌, ◌+◌, ◌^◌, ◌==◌, List, length, true, false, IsTrue, Some, None, Ok, Err, IfOk, OnOk};
-ghost use Rattle.pc_file.specs.declared.sizes.TheConstants.{MOST_WORDS};
-ghost use Rattle.pc_file.specs.Products.{products, words_of};
-ghost use Rattle.pc_calls.specs.declared.call.Call.TheVariants.{Open, Show, Choose, Retract, Close, Publish, Leave};
+ghost use Rattle.std.specs.Prelude.{◌≡◌, ◌≢◌, ℕ, ◌<◌, ◌≤◌, ◌+◌, ◌^◌, ◌==◌, List, [], length, true, false, IsTrue, Some, None, Ok, Err, IfOk, OnOk};
+ghost use Rattle.pc_file.specs.Full.{full};
+ghost use Rattle.pc_file.specs.Parts.{file_node_limit};
+ghost use Rattle.pc_calls.specs.declared.call.Call.TheVariants.{Open, Show, Close, Publish, Leave};
 ghost use Rattle.pc_calls.specs.Heads.{reply};
 ghost use Rattle.pc_calls.specs.State.{State, empty, opened_by};
 ghost use Rattle.pc_calls.specs.Step.{after};
+ghost use Rattle.pc_script.specs.Change.{change_call};
 ghost use Rattle.pc_script.specs.Heard.{may_speak};
 ghost use Rattle.pc_script.specs.Made.{IsMadeCall};
 ghost use Rattle.pc_script.specs.Script.{entered};
 
+use crate::change::Change;
 use crate::guest::{Guest, plain_head, refused};
 use pc_base::{NoMemory, Sequence};
-use pc_calls::{Call, MOST_LIVE, MOST_SESSIONS, Outcome, Reply, Shown};
-use pc_file::{File, SharedFile, plain_products};
-use pc_names::Name;
-use pc_session::Session;
+use pc_build::{BuildFault, SharedVersion, Version, compile};
+use pc_calls::{Call, MOST_LIVE, MOST_SESSIONS, Outcome, Reply};
+use pc_file::SharedFile;
 use std::alloc::Global;
 use std::marker::Model;
 
-/// The files of the versions in order of their numbers, from 1 on, and the caller 1: whether it has entered, whether
-/// it has left, and its sessions.
+/// The versions in order of their numbers, from 1 on, and the caller 1: whether it has entered, whether it has left, and
+/// its sessions.
 #[derive(Debug, Drop)]
 pub struct Shop {
-    versions: Sequence<SharedFile>,
+    versions: Sequence<SharedVersion>,
     entered: bool,
     left: bool,
     guest: Guest,
@@ -35,27 +36,16 @@ impl Model for Shop {
     ghost use Rattle.std.specs.Coded.{codes};
     ghost use Rattle.pc_calls.specs.State.{State};
     ghost use Rattle.pc_file.specs.contracts.shared_file.SharedFile as shared;
-    ghost use Rattle.pc_script.specs.ShopState.{IsPinned, IsShelved, state_by};
+    ghost use Rattle.pc_script.specs.ShopState.{IsPinned, files_of, state_by};
 
     ghost Value = { State };
 
     ghost coded = { Prim.hlevel (codes, shared.the_row.coded) };
 
-    ghost view = { λ s. state_by s.versions s.entered s.left s.guest.opened s.guest.sessions.items };
+    ghost view = { λ s. state_by (files_of s.versions) s.entered s.left s.guest.opened s.guest.sessions.items };
 
-    ghost invariant = { λ s. All IsShelved s.versions × All (IsPinned s.versions) s.guest.sessions.items × All (λ v. v.number ≤ s.guest.opened) s.guest.sessions.items
+    ghost invariant = { λ s. All (IsPinned (files_of s.versions)) s.guest.sessions.items × All (λ v. v.number ≤ s.guest.opened) s.guest.sessions.items
         × (s.entered ≡ false → (s.guest.opened ≡ 0) × (s.left ≡ false)) };
-}
-
-/// Whether a file that has few words has a product.
-fn has_product(alloc: Global, file: &File) -> Result<bool, NoMemory>
-    requires { words_of file.now ≤ MOST_WORDS }
-    ensures { IfOk result (λ some. (some ≡ true → 1 ≤ length (products file.now)) × (some ≡ false → length (products file.now) ≡ 0)) }
-{
-    match plain_products(alloc, file) {
-        Ok(words) => Ok(!words.is_empty()),
-        Err(_) => Err(NoMemory),
-    }
 }
 
 impl Shop {
@@ -112,17 +102,24 @@ impl Shop {
                 session,
                 variable,
                 value,
-            } => self.choose(session, &variable, &value),
-            Call::Retract { session, variable } => self.retract(session, &variable),
+            } => self.change(session, Change::Choose { variable, value }),
+            Call::Retract { session, variable } => self.change(
+                session,
+                Change::Retract { variable },
+            ),
+            Call::Bound {
+                session,
+                cost,
+                most,
+            } => self.change(session, Change::Bound { cost, most }),
+            Call::Unbound { session, cost } => self.change(session, Change::Unbound { cost }),
             Call::Close { session } => self.close(session),
             Call::Publish { base, file } => self.publish(base, file),
             Call::Leave => self.leave(),
-            Call::Enter
-            | Call::Bound { .. }
-            | Call::Unbound { .. }
-            | Call::Rebase { .. }
-            | Call::Reclaim { .. }
-            | Call::Versions => unreachable!(),
+            // A script makes none of these.
+            Call::Enter | Call::Rebase { .. } | Call::Reclaim { .. } | Call::Versions => {
+                Ok(refused(self.guest.alloc, 0, 0, Outcome::NoVersion))
+            }
         }
     }
 
@@ -134,18 +131,15 @@ impl Shop {
         ensures state { OnOk result (self.new ≡ after 1 Open self.old) }
         ensures opened { OnOk result (opened_by self.new 1 ≤ opened_by self.old 1 + 1) }
     {
-        let version = self.versions.len();
-        if version == 0 {
+        let number = self.versions.len() as u64;
+        let Some(version) = self.versions.as_slice().last() else {
             return Ok(refused(self.guest.alloc, 0, 0, Outcome::NoVersion));
-        }
+        };
         if self.guest.count() >= MOST_SESSIONS {
             return Ok(refused(self.guest.alloc, 0, 0, Outcome::SessionsFull));
         }
-        let Some(file) = self.versions.get(version - 1) else {
-            unreachable!();
-        };
-        let file = file.share()?;
-        self.guest.open(version as u64, file)
+        let version = version.share()?;
+        self.guest.open(number, version)
     }
 
     /// The listing of a session.
@@ -157,22 +151,13 @@ impl Shop {
         self.guest.show(number)
     }
 
-    /// Chooses a value in a session.
-    fn choose(&mut self, number: u64, variable: &Name, value: &Name) -> Result<Reply, NoMemory>
-        ensures reply { IfOk result (λ r. r ≡ reply 1 (Choose number variable.now value.now) self.old) }
-        ensures state { OnOk result (self.new ≡ after 1 (Choose number variable.now value.now) self.old) }
+    /// Changes what a session asks.
+    fn change(&mut self, number: u64, change: Change) -> Result<Reply, NoMemory>
+        ensures reply { IfOk result (λ r. r ≡ reply 1 (change_call number change) self.old) }
+        ensures state { OnOk result (self.new ≡ after 1 (change_call number change) self.old) }
         ensures opened { OnOk result (opened_by self.new 1 ≡ opened_by self.old 1) }
     {
-        self.guest.choose(number, variable, value)
-    }
-
-    /// Takes back a choice in a session.
-    fn retract(&mut self, number: u64, variable: &Name) -> Result<Reply, NoMemory>
-        ensures reply { IfOk result (λ r. r ≡ reply 1 (Retract number variable.now) self.old) }
-        ensures state { OnOk result (self.new ≡ after 1 (Retract number variable.now) self.old) }
-        ensures opened { OnOk result (opened_by self.new 1 ≡ opened_by self.old 1) }
-    {
-        self.guest.retract(number, variable)
+        self.guest.change(number, change)
     }
 
     /// Ends a session.
@@ -186,15 +171,30 @@ impl Shop {
 
     /// Makes a file the next version.
     fn publish(&mut self, base: u64, file: SharedFile) -> Result<Reply, NoMemory>
-        requires few { words_of file ≤ MOST_WORDS }
         ensures reply { IfOk result (λ r. r ≡ reply 1 (Publish base file) self.old) }
         ensures state { OnOk result (self.new ≡ after 1 (Publish base file) self.old) }
         ensures opened { OnOk result (opened_by self.new 1 ≡ opened_by self.old 1) }
     {
         let alloc = self.guest.alloc;
-        if !has_product(alloc, file.file())? {
-            return Ok(refused(alloc, 0, 0, Outcome::NoProduct));
+        match compile(alloc, file) {
+            Ok(version) => self.shelve(base, version),
+            Err(BuildFault::NodeLimit { rule, part }) => {
+                Ok(refused(alloc, 0, 0, Outcome::NodeLimit { rule, part }))
+            }
+            Err(BuildFault::NoProduct) => Ok(refused(alloc, 0, 0, Outcome::NoProduct)),
+            Err(BuildFault::NoMemory) => Err(NoMemory),
         }
+    }
+
+    /// Makes the version of a file the next one.
+    fn shelve(&mut self, base: u64, version: Version) -> Result<Reply, NoMemory>
+        requires small { file_node_limit version.file ≡ None }
+        requires some { full version.file ≢ [] }
+        ensures reply { IfOk result (λ r. r ≡ reply 1 (Publish base version.file) self.old) }
+        ensures state { OnOk result (self.new ≡ after 1 (Publish base version.file) self.old) }
+        ensures opened { OnOk result (opened_by self.new 1 ≡ opened_by self.old 1) }
+    {
+        let alloc = self.guest.alloc;
         let current = self.versions.len() as u64;
         if base != current {
             return Ok(refused(alloc, 0, 0, Outcome::Stale { current }));
@@ -202,7 +202,7 @@ impl Shop {
         if self.versions.len() >= MOST_LIVE {
             return Ok(refused(alloc, 0, 0, Outcome::ShelvesFull));
         }
-        self.versions.push(file)?;
+        self.versions.push(SharedVersion::new(alloc, version)?)?;
         Ok(Reply {
             head: plain_head(alloc, 0, current + 1, Outcome::Done),
             shown: None,

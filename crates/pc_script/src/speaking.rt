@@ -14,24 +14,18 @@ ghost use Rattle.pc_script.specs.Script.{caller_line, entered, said_after, said_
 use crate::item::{Heard, Said};
 use crate::shop::Shop;
 use pc_base::{Line, NoMemory, Text};
-use pc_calls::{Call, Command, PlacedWord, first_word, write_reply};
-use pc_conn::{Item, hear, push_bad, push_fault, push_not_built};
+use pc_calls::{Call, Command, PlacedWord, first_word, push_reply};
+use pc_conn::{Item, hear, push_bad, push_fault};
 use pc_names::read_unsigned;
 
 /// Whether a command is one that a script doesn't know yet.
 fn is_later(command: Option<Command>) -> bool
     ensures { result ≡ is_later command }
 {
-    match command {
-        Some(
-            Command::Bound
-            | Command::Unbound
-            | Command::Rebase
-            | Command::Reclaim
-            | Command::Versions,
-        ) => true,
-        _ => false,
-    }
+    matches!(
+        command,
+        Some(Command::Rebase | Command::Reclaim | Command::Versions)
+    )
 }
 
 /// The byte after a word.
@@ -126,7 +120,6 @@ impl Shop {
             Item::Call(call) => self.push_reply(&mut text, call)?,
             Item::Bad { column } => push_bad(&mut text, column)?,
             Item::Fault { line, kind } => push_fault(&mut text, line, kind)?,
-            Item::NotBuilt { line } => push_not_built(&mut text, line)?,
         }
         Ok(text)
     }
@@ -141,6 +134,6 @@ impl Shop {
     {
         self.enter();
         let reply = self.reply(call)?;
-        text.extend_from_slice(write_reply(self.alloc(), &reply)?.as_slice())
+        push_reply(text, &reply)
     }
 }

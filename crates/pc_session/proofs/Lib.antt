@@ -1,1 +1,5 @@
-pub mod Fits
+pub mod Crossing
+pub mod Limits
+pub mod ListedLemmas
+pub mod NextLemmas
+pub mod SlotLemmas

@@ -1,10 +1,6 @@
 -- A session as its contracts see it, and what its calls answer.
-use Rattle.std.specs.Prelude.{ℕ, Bool, Some, None, Ok, Err}
-use Rattle.std.specs.List.{list_any}
-use Rattle.pc_diagram.specs.Fitting.{fits}
-use Rattle.pc_file.specs.Limits.{Contents}
-use Rattle.pc_file.specs.Costs.{costs_of}
-use Rattle.pc_file.specs.Products.{products}
+use Rattle.std.specs.Prelude.{ℕ, Some, None, Ok, Err}
+use Rattle.pc_file.specs.Contents.{Contents}
 use Rattle.pc_calls.specs.declared.outcome.Outcome.TheVariants.{Done}
 use Rattle.pc_calls.specs.Decision.{Decision}
 use Rattle.pc_calls.specs.Selection.{Selection, shown}
@@ -16,10 +12,6 @@ pub record Visit : Type 0 where
   pub version : ℕ
   pub file : Contents
   pub selection : Selection
-
--- some product of a file fits
-abbrev pub some_fit : Contents → Selection → Bool
-some_fit file selection = list_any (λ word. fits (costs_of file.variables) word selection.choices selection.bounds) (products file)
 
 -- what is answered to a call that gives this: the listing of what is asked then, or the refusal
 abbrev pub answer_to : Contents → Decision Selection → declared.Answer

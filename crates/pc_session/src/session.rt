@@ -1,100 +1,72 @@
 //! Sessions.
 
-ghost use Rattle.std.specs.List.{list_any};
-ghost use Rattle.std.specs.Prelude.{◌≡◌, ◌==◌, ◌≤◌, ◌<◌, [], Ok, Err, IfOk, OnOk, OnErr, IsTrue, length};
-ghost use Rattle.pc_diagram.specs.Choices.{is_chosen};
-ghost use Rattle.pc_file.specs.declared.sizes.TheConstants.{MOST_WORDS};
-ghost use Rattle.pc_file.specs.Costs.{file_listing};
-ghost use Rattle.pc_file.specs.Products.{products, words_of};
-ghost use Rattle.pc_calls.specs.Selection.{free, shown, is_in, show, choose, retract};
+ghost use Rattle.std.specs.Prelude.{◌≡◌, ◌<◌, ◌≤◌, ◌+◌, IfOk, OnOk, OnErr};
+ghost use Rattle.pc_file.specs.Positions.{variable_named};
+ghost use Rattle.pc_calls.specs.Selection.{bound, choose, free, retract, shown, unbound};
+ghost use Rattle.pc_session.specs.Slots.{choose_steps, retract_steps};
 ghost use Rattle.pc_session.specs.Visit.{answer_to, visit_after};
 
 use crate::answer::Answer;
-use pc_base::{NoMemory, Sequence};
-use pc_calls::Outcome;
-use pc_diagram::{Bounds, Choices, Listed, Listing, Word};
-use pc_file::{File, PlainFault, SharedFile, listing_over, plain_products};
+use crate::boards::{free_board, listing_of};
+use crate::next::answered;
+use crate::{bounding, choosing};
+use pc_base::NoMemory;
+use pc_build::SharedVersion;
+use pc_diagram::{Listing, Steps};
+use pc_domains::Board;
+use pc_file::SharedFile;
 use pc_names::Name;
 use std::alloc::Global;
-use std::marker::Model;
+use std::marker::{Brand, Model};
+use std::sync::ledger::{Blank, Ledger};
 
-/// An open session of a shopper, over the plain list of the products of its version's file.
+/// An open session of a shopper: the board of what it asks of its version.
 #[derive(Debug, Drop)]
 pub struct Session {
     alloc: Global,
     number: u64,
-    version: u64,
-    file: SharedFile,
-    choices: Choices,
-    bounds: Bounds,
+    version_number: u64,
+    version: SharedVersion,
+    board: Board,
 }
 
 impl Model for Session {
-    ghost use Rattle.std.specs.Prelude.{◌≡◌, ◌≤◌, IsTrue};
-    ghost use Rattle.pc_file.specs.declared.sizes.TheConstants.{MOST_WORDS};
-    ghost use Rattle.pc_file.specs.Products.{words_of};
-    ghost use Rattle.pc_file.specs.contracts.shared_file.SharedFile as shared;
-    ghost use Rattle.pc_session.specs.Visit.{Visit, some_fit};
     ghost use Rattle.std.specs.Coded.{codes};
+    ghost use Rattle.pc_file.specs.contracts.shared_file.SharedFile as shared;
+    ghost use Rattle.pc_domains.specs.Boards.{IsBoardOf};
+    ghost use Rattle.pc_session.specs.Visit.{Visit};
 
     ghost Value = { Visit };
 
     ghost coded = { Prim.hlevel (codes, shared.the_row.coded) };
 
-    ghost view = { λ s. record { number = s.number; version = s.version; file = s.file; selection = record { choices = s.choices; bounds = s.bounds } } };
+    ghost view = { λ s. record { number = s.number; version = s.version_number; file = s.version.file; selection = record { choices = s.board.choices; bounds = s.board.bounds } } };
 
-    ghost invariant = { λ s. (words_of s.file ≤ MOST_WORDS) × IsTrue (some_fit s.file (record { choices = s.choices; bounds = s.bounds })) };
-}
-
-/// The products of a file that has few words.
-fn products_of(alloc: Global, file: &File) -> Result<Sequence<Word>, NoMemory>
-    requires { words_of file.now ≤ MOST_WORDS }
-    ensures { IfOk result (λ words. words ≡ products file.now) }
-{
-    match plain_products(alloc, file) {
-        Ok(words) => Ok(words),
-        Err(_) => Err(NoMemory),
-    }
-}
-
-/// Whether a value of a variable is in a listing.
-fn is_in(listing: &Listing, variable: u32, value: u32) -> bool
-    ensures { result ≡ is_in listing.now variable value }
-{
-    match listing.get(variable as usize) {
-        Some(items) => has_value(items.as_slice(), value),
-        None => false,
-    }
-}
-
-/// Whether a value is among those listed.
-fn has_value(items: &[Listed], value: u32) -> bool
-    ensures { result ≡ list_any (λ item. item.value == value) items.now }
-{
-    items.iter().any(|item| item.value == value)
+    ghost invariant = { λ s. IsBoardOf s.version.diagram s.version.costs s.board };
 }
 
 impl Session {
-    /// A session without choices and bounds, and its listing. The file has at most 65,536 words without its rules.
-    #[tactic(auto, using(crate::proofs::Fits::free_fits))]
+    /// A session without choices and bounds, and its listing.
+    ///
+    /// # Errors
+    ///
+    /// Want of memory.
     pub fn start(
         alloc: Global,
         number: u64,
-        file: SharedFile,
+        version: SharedVersion,
         version_number: u64,
     ) -> Result<(Session, Listing), NoMemory>
-        requires few { words_of file ≤ MOST_WORDS }
-        requires product { 1 ≤ length (products file) }
-        ensures session { IfOk result (λ p. p.0 ≡ record { number = number; version = version_number; file = file; selection = free }) }
-        ensures listing { IfOk result (λ p. p.1 ≡ shown file free) }
+        ensures session { IfOk result (λ p. p.0 ≡ record { number = number; version = version_number; file = version.file; selection = free }) }
+        ensures listing { IfOk result (λ p. p.1 ≡ shown version.file free) }
     {
+        let board = free_board::<Brand>(alloc, version.version(), Blank::new(1))?;
         let session = Session {
             alloc,
             number,
-            version: version_number,
-            file,
-            choices: Choices::new(alloc),
-            bounds: Bounds::none(),
+            version_number,
+            version,
+            board,
         };
         let listing = session.show()?;
         Ok((session, listing))
@@ -111,78 +83,105 @@ impl Session {
     pub fn version(&self) -> u64
         ensures { result ≡ self.now.version }
     {
-        self.version
+        self.version_number
     }
 
     /// The file of its version.
     pub fn file(&self) -> &SharedFile
         ensures { result.now ≡ self.now.file }
     {
-        &self.file
+        &self.version.version().file
     }
 
     /// The values that still lead to a product, each with the cheapest such product.
+    ///
+    /// # Errors
+    ///
+    /// Want of memory.
     pub fn show(&self) -> Result<Listing, NoMemory>
         ensures { IfOk result (λ listing. listing ≡ shown self.now.file self.now.selection) }
     {
-        let words = products_of(self.alloc, self.file.file())?;
-        self.listing(&words, &self.choices)
+        self.show_by::<Brand>(Blank::new(1))
     }
 
-    /// The listing over the products of the file, for choices with the session's bounds.
-    #[tactic(auto, unfolding(pc_calls::specs::Selection::shown))]
-    fn listing(&self, words: &Sequence<Word>, choices: &Choices) -> Result<Listing, NoMemory>
-        requires { words.now ≡ products self.now.file }
-        ensures { IfOk result (λ listing. listing ≡ shown self.now.file (record { choices = choices.now; bounds = self.now.selection.bounds })) }
+    fn show_by<L: Ledger>(&self, blank: Blank) -> Result<Listing, NoMemory>
+        requires name { blank.name ≡ L.name }
+        requires parts { blank.parts ≡ L.parts }
+        requires some { 0 < blank.parts }
+        ensures { IfOk result (λ listing. listing ≡ shown self.now.file self.now.selection) }
     {
-        let file = self.file.file();
-        listing_over(self.alloc, file, words.as_slice(), choices, &self.bounds)
+        let mut steps = Steps::<L>::new(blank);
+        listing_of(self.alloc, self.version.version(), &self.board, &mut steps)
     }
 
     /// Chooses a value for a variable. A variable that has this value already keeps its place among the choices.
-    #[tactic(auto, using(crate::proofs::Fits::chosen_fits), unfolding(pc_calls::specs::Selection::choose))]
-    pub fn choose(&mut self, variable: &Name, value: &Name) -> Result<Answer, NoMemory>
+    ///
+    /// # Errors
+    ///
+    /// Want of memory.
+    pub fn choose<L: Ledger>(
+        &mut self,
+        variable: &Name,
+        value: &Name,
+        steps: &mut Steps<L>,
+    ) -> Result<Answer, NoMemory>
         ensures answer { IfOk result (λ answer. answer ≡ answer_to self.old.file (choose variable.now value.now self.old.file self.old.selection)) }
         ensures session { OnOk result (self.new ≡ visit_after self.old (choose variable.now value.now self.old.file self.old.selection)) }
         ensures kept { OnErr result (self.new ≡ self.old) }
+        ensures steps { steps.new ≤ steps.old + choose_steps self.old.file (variable_named self.old.file variable.now) }
     {
-        let Some(variable) = self.file.file().variable(variable) else {
-            return Ok(Answer::refused(Outcome::NoVariable));
-        };
-        let Some(value) = self.file.file().value(variable, value) else {
-            return Ok(Answer::refused(Outcome::NoValue));
-        };
-        let words = products_of(self.alloc, self.file.file())?;
-        let listing = self.listing(&words, &self.choices)?;
-        if !is_in(&listing, variable, value) {
-            return Ok(Answer::refused(Outcome::NotListed));
-        }
-        if self.choices.is_chosen(variable) {
-            return Ok(Answer::done(listing));
-        }
-        let more = self.choices.with(self.alloc, variable, value)?;
-        let listing = self.listing(&words, &more)?;
-        self.choices = more;
-        Ok(Answer::done(listing))
+        let version = self.version.version();
+        let next = choosing::choose(self.alloc, version, &self.board, variable, value, steps)?;
+        Ok(answered(&mut self.board, next))
     }
 
     /// Takes back the choice of a variable.
-    #[tactic(auto, using(crate::proofs::Fits::retracted_fits), unfolding(pc_calls::specs::Selection::retract))]
-    pub fn retract(&mut self, variable: &Name) -> Result<Answer, NoMemory>
+    ///
+    /// # Errors
+    ///
+    /// Want of memory.
+    pub fn retract<L: Ledger>(
+        &mut self,
+        variable: &Name,
+        steps: &mut Steps<L>,
+    ) -> Result<Answer, NoMemory>
         ensures answer { IfOk result (λ answer. answer ≡ answer_to self.old.file (retract variable.now self.old.file self.old.selection)) }
         ensures session { OnOk result (self.new ≡ visit_after self.old (retract variable.now self.old.file self.old.selection)) }
         ensures kept { OnErr result (self.new ≡ self.old) }
+        ensures steps { steps.new ≤ steps.old + retract_steps self.old.file (variable_named self.old.file variable.now) }
     {
-        let Some(variable) = self.file.file().variable(variable) else {
-            return Ok(Answer::refused(Outcome::NoVariable));
-        };
-        if !self.choices.is_chosen(variable) {
-            return Ok(Answer::refused(Outcome::NotChosen));
-        }
-        let fewer = self.choices.without(self.alloc, variable)?;
-        let words = products_of(self.alloc, self.file.file())?;
-        let listing = self.listing(&words, &fewer)?;
-        self.choices = fewer;
-        Ok(Answer::done(listing))
+        let version = self.version.version();
+        let next = choosing::retract(self.alloc, version, &self.board, variable, steps)?;
+        Ok(answered(&mut self.board, next))
+    }
+
+    /// Bounds a cost: no product that costs more fits. An older bound on it goes.
+    ///
+    /// # Errors
+    ///
+    /// Want of memory.
+    pub fn bound(&mut self, cost: &Name, most: i64) -> Result<Answer, NoMemory>
+        ensures answer { IfOk result (λ answer. answer ≡ answer_to self.old.file (bound cost.now most self.old.file self.old.selection)) }
+        ensures session { OnOk result (self.new ≡ visit_after self.old (bound cost.now most self.old.file self.old.selection)) }
+        ensures kept { OnErr result (self.new ≡ self.old) }
+    {
+        let (version, blank) = (self.version.version(), Blank::new(1));
+        let next = bounding::bound::<Brand>(self.alloc, version, &self.board, cost, most, blank)?;
+        Ok(answered(&mut self.board, next))
+    }
+
+    /// Takes back the bound of a cost.
+    ///
+    /// # Errors
+    ///
+    /// Want of memory.
+    pub fn unbound(&mut self, cost: &Name) -> Result<Answer, NoMemory>
+        ensures answer { IfOk result (λ answer. answer ≡ answer_to self.old.file (unbound cost.now self.old.file self.old.selection)) }
+        ensures session { OnOk result (self.new ≡ visit_after self.old (unbound cost.now self.old.file self.old.selection)) }
+        ensures kept { OnErr result (self.new ≡ self.old) }
+    {
+        let (version, blank) = (self.version.version(), Blank::new(1));
+        let next = bounding::unbound::<Brand>(self.alloc, version, &self.board, cost, blank)?;
+        Ok(answered(&mut self.board, next))
     }
 }

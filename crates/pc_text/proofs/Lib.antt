@@ -12,5 +12,4 @@ pub mod SoundText
 pub mod SpelledHasNoFault
 pub mod SpellsExample
 pub mod StatementFaults
-pub mod TooManyLemmas
 pub mod ValueWords

@@ -9,5 +9,4 @@ pub mod Orders
 pub mod Spells
 pub mod Statement
 pub mod Told
-pub mod TooManyWords
 pub mod Variables

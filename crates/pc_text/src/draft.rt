@@ -12,7 +12,6 @@ ghost use Rattle.pc_rules.specs.declared.kind.Kind.{Kind};
 ghost use Rattle.pc_text.specs.Given.{argument, catalogue_of, contents_given, give, give_rule, give_statement, give_value, variables_given};
 ghost use Rattle.pc_text.specs.Orders.{fault_of_rule, first_standing, orders_within, print_fault, rule_fault, statement_fault, values_in};
 ghost use Rattle.pc_text.specs.FirstFault.{line_fault, give_line};
-ghost use Rattle.pc_text.specs.TooManyWords.{has_too_many_words};
 ghost use Rattle.pc_names.specs.LineWords.{words};
 ghost use Rattle.pc_rules.specs.declared.kind.Kind.TheVariants.{Header};
 ghost use Rattle.pc_rules.specs.RuleText.{rule_of};
@@ -25,7 +24,6 @@ use crate::keyword::Keyword;
 use crate::line_words::arguments_of;
 use crate::statement_fault::StatementFault;
 use crate::variables::Variables;
-use crate::words_before::words_before;
 use pc_base::{NoMemory, Sequence};
 use pc_file::{
     File, MOST_COSTS, MOST_RULES, Rule, Value, cost_line_size, end_line_size, header_line_size,
@@ -88,16 +86,6 @@ impl Draft {
         ensures { result ≡ (given_of self.now).last }
     {
         self.last
-    }
-
-    /// Whether the numbers of values of the variables so far multiply to more than `MOST_WORDS`.
-    pub fn has_too_many_words(&self) -> bool
-        ensures { result ≡ has_too_many_words (given_of self.now) }
-    {
-        match words_before(self.variables.closed(), self.variables.open_values()) {
-            Some(_) => false,
-            None => true,
-        }
     }
 
     /// A line that isn't skipped, by its keyword and the bytes after that.

@@ -14,11 +14,10 @@ mod statement_fault;
 mod text;
 mod text_fault;
 mod variables;
-mod words_before;
 mod writer;
 
 pub use limits::LINES;
 pub use pc_rules::Kind;
-pub use text::{read_file, too_many_words_at};
+pub use text::read_file;
 pub use text_fault::TextFault;
 pub use writer::write_file;

@@ -1,8 +1,6 @@
 //! Reading a text from its first line to its last.
 
-ghost use Rattle.std.specs.Prelude.{◌≡◌, if◌then◌else◌, Some, None};
-ghost use Rattle.std.specs.Option.{option_or};
-ghost use Rattle.pc_text.specs.TooManyWords.{has_too_many_words, too_many_words_at};
+ghost use Rattle.std.specs.Prelude.{◌≡◌};
 ghost use Rattle.pc_text.specs.FirstFault.{end_fault, first_fault, give_line, given_by, is_large, line_fault};
 ghost use Rattle.pc_text.specs.Draft.{given_of};
 ghost use Rattle.pc_text.specs.Told.{TellsAt, ReadsText};
@@ -17,22 +15,13 @@ use pc_file::{LINE_BYTES, TEXT_BYTES};
 use pc_rules::Kind;
 use std::alloc::Global;
 
-/// What the lines of a text give, and the number of the first line at which the numbers of values of the variables so
-/// far multiply to more than `MOST_WORDS`.
-#[derive(Debug, Drop)]
-pub struct Statements {
-    pub draft: Draft,
-    pub too_many_at: Option<u64>,
-}
-
 /// What all lines of a text give, or the first fault.
-pub fn read_statements(alloc: Global, text: &[u8]) -> Result<Statements, TextFault>
-    ensures { ReadsText (λ statements. (given_of statements.draft ≡ given_by text.now) × (statements.too_many_at ≡ too_many_words_at text.now)) result (first_fault text.now) }
+pub fn read_statements(alloc: Global, text: &[u8]) -> Result<Draft, TextFault>
+    ensures { ReadsText (λ draft. given_of draft ≡ given_by text.now) result (first_fault text.now) }
 {
     let mut draft = Draft::new(alloc);
     let mut rest = text;
     let mut number = 1;
-    let mut too_many_at = None;
     while !rest.is_empty() {
         let (line, after) = cut_line(rest);
         if is_large(number, text.len() - after.len(), line) {
@@ -45,24 +34,13 @@ pub fn read_statements(alloc: Global, text: &[u8]) -> Result<Statements, TextFau
             Ok(next) => draft = next,
             Err(fault) => return Err(fault),
         }
-        too_many_at = first_too_many(too_many_at, &draft, number);
         rest = after;
         number += 1;
     }
     match end_fault(draft.last()) {
         Some(kind) => Err(TextFault::At { line: number, kind }),
-        None => Ok(Statements { draft, too_many_at }),
+        None => Ok(draft),
     }
-}
-
-/// The first line with too many words, where this one is read.
-fn first_too_many(too_many_at: Option<u64>, draft: &Draft, number: u64) -> Option<u64>
-    ensures { result ≡ option_or too_many_at (if has_too_many_words (given_of draft.now) then Some number else None) }
-{
-    if too_many_at.is_none() && draft.has_too_many_words() {
-        return Some(number);
-    }
-    too_many_at
 }
 
 /// The next line, with its number, which a fault tells.

@@ -4,7 +4,6 @@ ghost use Rattle.std.specs.Prelude.{◌≡◌, [], map, None, IfOk};
 ghost use Rattle.std.specs.Option.{option_to_list};
 ghost use Rattle.pc_file.specs.Limits.{value_names};
 ghost use Rattle.pc_file.specs.Catalogue.{Indexes};
-ghost use Rattle.pc_file.specs.Products.{value_counts, word_count};
 ghost use Rattle.pc_text.specs.Given.{catalogue_of, with_value};
 ghost use Rattle.pc_text.specs.Orders.{first_standing, values_in};
 ghost use Rattle.pc_text.specs.Told.{Tells};
@@ -124,16 +123,6 @@ impl Variables {
         ensures { self.now.open_variable ≡ None → result.now ≡ catalogue_of self.now.closed }
     {
         &self.names
-    }
-
-    /// In how many ways a word goes on over the open variable.
-    pub fn open_values(&self) -> usize
-        ensures { result ≡ word_count (value_counts (option_to_list self.now.open_variable)) }
-    {
-        match &self.open_variable {
-            None => 1,
-            Some(variable) => variable.values.len(),
-        }
     }
 
     /// The same with the values of each variable all given.

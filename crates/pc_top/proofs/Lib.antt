@@ -1,6 +1,9 @@
+pub mod BuiltLemmas
 pub mod CheckLemmas
 pub mod DumpLemmas
 pub mod ListLemmas
+pub mod OnceLemmas
+pub mod RefusalLemmas
 pub mod ScriptEnds
 pub mod StatusLemmas
 pub mod ToldLemmas

@@ -1,41 +1,48 @@
 -- What an answer of `list` means.
-use Rattle.std.proofs.Common.{◌≡◌, ℕ, ◌≤◌, nat_eq, cond, Bool, true, false, List, [], length, refl, subst, sym, inr, ◌∷◌, arith}
+use Rattle.std.proofs.Common.{◌≡◌, ℕ, List, Option, Some, None, refl, sym, ap, ◌∙◌, subst, unwrap_or}
 use Rattle.std.specs.Prelude.{Result, Ok, Err, IfOk}
-use Rattle.std.proofs.lemmas.Bool.Decides.{nat_tests}
-use Rattle.pc_file.specs.declared.sizes.TheConstants.{MOST_WORDS}
-use Rattle.pc_file.specs.Limits.{Contents}
-use Rattle.pc_file.specs.Products.{products, words_of}
-use Rattle.pc_text.specs.Spells.{Spells}
+use Rattle.pc_file.specs.Contents.{Contents}
 use Rattle.pc_top.specs.declared.reply.Reply.{Reply}
-use Rattle.pc_top.specs.ListReply.{listed, listing_reply, refused_no_product}
-use Rattle.pc_top.specs.Reply.{Is}
 use Rattle.pc_top.specs.ListMeans.{ListMeans}
+use Rattle.pc_top.specs.ListReply.{list_reply, listing_reply}
+use Rattle.pc_top.specs.Output.{Output}
+use Rattle.pc_top.specs.Refusals.{file_given, text_refusal}
+use Rattle.pc_top.specs.Reply.{Is}
+use Rattle.pc_top.proofs.RefusalLemmas.{is_buildable, refuses_rightly}
 
-is_empty : (words : List (List ℕ)) → length words ≡ 0 → words ≡ []
-is_empty [] none = refl
-is_empty (word ∷ words) none =
-    let no : ⊥ = omega (arith, none) in
-    elim no [ ]
+abbrev Means : List ℕ → Output → Type 0
+Means text output = ListMeans output.status text output.text
 
-by_count : (text : List ℕ) (file : Contents) (is_none : Bool) → Spells text file → words_of file ≤ MOST_WORDS → is_none ≡ nat_eq (length (products file)) 0 →
-    ListMeans (cond is_none refused_no_product (listing_reply file)).status text (cond is_none refused_no_product (listing_reply file)).text
-by_count text file true spells few is = inr (inr (record { file = file; spells = spells; few_words = few; no_product = is_empty (products file) (grind (arith, nat_tests)); writes = refl }))
-by_count text file false spells few is = record {
-  file = file;
-  spells = spells;
-  few_words = few;
-  some_product = grind (arith, nat_tests);
-  writes = refl;
-}
+by_refusal : (text : List ℕ) (refusal : Option Output) → text_refusal text ≡ refusal → Means text (unwrap_or refusal (listing_reply (file_given text)))
+by_refusal text (Some output) is =
+    let rightly = refuses_rightly text output is in
+    subst (λ s. ListMeans s text output.text) (sym rightly.status) rightly.means
+by_refusal text None is =
+    let buildable = is_buildable text is in
+    record { file = file_given text; spells = buildable.spells; small = buildable.small; some_product = buildable.some_product; writes = refl }
 
-means_file : (text : List ℕ) (file : Contents) → Spells text file → words_of file ≤ MOST_WORDS →
-    ListMeans (listed file (products file)).status text (listed file (products file)).text
-means_file text file spells few = by_count text file (nat_eq (length (products file)) 0) spells few refl
+list_means : (text : List ℕ) → Means text (list_reply text)
+unfolding list_reply
+list_means text = by_refusal text (text_refusal text) refl
 
--- a file with few words is listed, or has no product
-pub means_listed : {E : Type 0} (text : List ℕ) (file : Contents) (result : Result Reply E) → Spells text file → words_of file ≤ MOST_WORDS →
-    IfOk result (λ reply. Is reply (listed file (products file))) → IfOk result (λ reply. ListMeans reply.status text reply.text)
-means_listed text file (Ok reply) spells few is =
-    subst (λ s. ListMeans s text reply.text) (sym is.status)
-    (subst (λ t. ListMeans (listed file (products file)).status text t) (sym is.text) (means_file text file spells few))
-means_listed text file (Err fault) spells few is = tt
+-- the answer to a text means what it should
+pub reply_means : (text : List ℕ) (reply : Reply) → Is reply (list_reply text) → ListMeans reply.status text reply.text
+reply_means text reply is =
+    subst (λ s. ListMeans s text reply.text) (sym is.status) (subst (λ t. ListMeans (list_reply text).status text t) (sym is.text) (list_means text))
+
+pub means_exact : {E : Type 0} (text : List ℕ) (result : Result Reply E) → IfOk result (λ reply. Is reply (list_reply text)) → IfOk result (λ reply. ListMeans reply.status text reply.text)
+means_exact text (Ok reply) is = reply_means text reply is
+means_exact text (Err fault) is = tt
+
+-- what is refused is the answer
+pub refused_is : (text : List ℕ) (reply : Reply) (output : Output) → text_refusal text ≡ Some output → Is reply output → Is reply (list_reply text)
+unfolding list_reply
+refused_is text reply output refused is = subst (Is reply) (sym (ap (λ r. unwrap_or r (listing_reply (file_given text))) refused)) is
+
+-- the listing of a file is the answer to a text that spells it and isn't refused
+pub listed_is : {E : Type 0} (text : List ℕ) (file : Contents) (result : Result Reply E) → text_refusal text ≡ None → file ≡ file_given text →
+    IfOk result (λ reply. Is reply (listing_reply file)) → IfOk result (λ reply. Is reply (list_reply text))
+unfolding list_reply
+listed_is text file result none same is =
+    subst (λ output. IfOk result (λ reply. Is reply output))
+    (ap listing_reply same ∙ sym (ap (λ r. unwrap_or r (listing_reply (file_given text))) none)) is

@@ -9,7 +9,7 @@ use Rattle.pc_dump.specs.declared.dump.Dump.TheVariants.{Tables, Misfit}
 use Rattle.pc_dump.specs.Form.{IsDump, cut_lines}
 use Rattle.pc_top.specs.declared.status.Status.{Status}
 use Rattle.pc_top.specs.declared.status.Status.TheVariants.{Done, WrongWords, Refused, ReadFault, WriteFault, NoMemory, TooLong}
-use Rattle.pc_top.specs.ListReply.{Output}
+use Rattle.pc_top.specs.Output.{Output}
 
 -- `good NODES EDGES`
 abbrev pub good : ℕ → ℕ → Output

@@ -1,3 +1,4 @@
+pub mod Built
 pub mod CheckMeans
 pub mod Does
 pub mod DumpMeans
@@ -5,6 +6,8 @@ pub mod JobMeans
 pub mod ListMeans
 pub mod ListReply
 pub mod Outcome
+pub mod Output
+pub mod Refusals
 pub mod Reply
 pub mod ScriptStatus
 pub mod Status

@@ -1,7 +1,7 @@
 -- A reply of the program, and the output that it is.
 use Rattle.std.specs.Prelude.{◌≡◌}
 use Rattle.pc_top.specs.declared.reply.Reply.{Reply}
-use Rattle.pc_top.specs.ListReply.{Output}
+use Rattle.pc_top.specs.Output.{Output}
 
 pub record Is (reply : Reply) (output : Output) : Type 0 where
   pub status : reply.status ≡ output.status

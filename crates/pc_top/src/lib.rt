@@ -1,10 +1,14 @@
 //! The program: what each form of the command line reads and writes, over any source and sink.
 #![tactic(auto)]
 
+mod building;
 mod check_reply;
 mod form;
 mod job;
+pub mod laws;
+mod listing;
 mod program;
+mod refusals;
 mod reply;
 mod script;
 mod status;

@@ -1,10 +1,12 @@
 //! Tells how much of a script was answered at each read of its input: a caller that waits for an answer gets it before
-//! the program waits for the next line.
+//! the program waits for the next line. Then the answers to a script that bounds a cost; they were written by hand.
 #![tactic(auto)]
 
+mod bounds;
 mod watched;
 
 use anyhow::Result;
+use bounds::tell_bounds;
 use pc_io::{MemorySink, MemorySource};
 use pc_script::run_script;
 use std::cell::Cell;
@@ -21,6 +23,12 @@ const LINE: usize = 9;
 const ROOM: usize = 1024;
 
 fn main(rt: HostRuntime) -> Result<()> {
+    tell_reads(&rt)?;
+    tell_bounds(&rt)
+}
+
+/// Tells at each read how many bytes of answers were written by then.
+fn tell_reads(rt: &HostRuntime) -> Result<()> {
     let alloc = rt.alloc();
     let held = Rc::new(alloc, Cell::new(0u64))?;
     let lines = MemorySource::new(SCRIPT.to_vec(alloc)?, LINE, Vec::new(alloc));

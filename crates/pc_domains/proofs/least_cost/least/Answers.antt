@@ -20,7 +20,7 @@ pub returns-in_ok-least_by_labels-in-Second-None-default-clause-least : goal.ret
 returns-in_ok-least_by_labels-in-Second-None-default-clause-least g c =
     let all = words c.args.diagram.now in
     let choices = c.args.choices.now in
-    c.in_ok-least_by_labels-in-Second-None-default.ensures
+    c.in_ok-least_by_labels-in-Second-None-default.ensures.least
     ∙ ap (λ (l : List (List CostPair)). least_cost First l (fitting l all choices c.swapped_bounds-bounds.result)) c.in_ok-costs-in-Second-None-default.ensures
     ∙ ap (λ (b : Bounds). least_cost First (swapped_costs c.args.costs.now) (fitting (swapped_costs c.args.costs.now) all choices b)) c.swapped_bounds-bounds.ensures
     ∙ least_swapped c.args.costs.now choices c.args.bounds.now all

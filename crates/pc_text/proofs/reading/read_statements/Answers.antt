@@ -5,13 +5,10 @@ use Rattle.std.proofs.lemmas.Bool.Decides.{nat_tests}
 use Rattle.pc_rules.specs.declared.kind.Kind.{Kind}
 use Rattle.pc_text.specs.declared.text_fault.TextFault.{TextFault}
 use Rattle.pc_text.specs.declared.text_fault.TextFault.TheVariants.{At, NoMemory}
-use Rattle.pc_text.specs.declared.reading.Statements.{Statements}
 use Rattle.pc_text.specs.Told.{TellsAt, ReadsText}
 use Rattle.pc_text.specs.FirstFault.{is_large, end_fault, at, first_fault, given_by, give_line, line_fault}
 use Rattle.pc_text.specs.declared.draft.Draft.{Draft}
 use Rattle.pc_text.specs.Draft.{given_of}
-use Rattle.pc_text.specs.TooManyWords.{too_many_words_at}
-use Rattle.pc_text.proofs.TooManyLemmas.{too_many_more, too_many_all}
 use Rattle.pc_text.proofs.FaultLemmas.{given_step, fault_end, given_end, less_after, stops_large, stops_faulty, goes_on}
 use Rattle.pc_text.proofs.reading.read_statements.Goals as goal
 
@@ -43,7 +40,7 @@ returns-in-Err c =
     let some : 0 < length rest = grind (arith, c.is_empty.ensures, c.loop-rest-test.true) in
     let i = c.loop-rest.invariant in
     let small : is_large c.loop-rest.number (length text - length c.cut_line.result.1.now) line ≡ false = sym c.is_large.ensures ∙ c.if-is_large.false in
-    told (λ (statements : Statements). (given_of statements.draft ≡ given_by text) × (statements.too_many_at ≡ too_many_words_at text)) c.in-Err.fault c.loop-rest.number (line_fault given line) (λ (next : Draft). given_of next ≡ give_line given line) (first_fault text)
+    told (λ (draft : Draft). given_of draft ≡ given_by text) c.in-Err.fault c.loop-rest.number (line_fault given line) (λ (next : Draft). given_of next ≡ give_line given line) (first_fault text)
     (λ kind. stops_faulty given c.loop-rest.number text rest line c.cut_line.result.1.now some i.within c.cut_line.ensures.line c.cut_line.ensures.after i.fault kind small)
     c.in-Err.ensures
 
@@ -76,8 +73,6 @@ loop-rest-preserved c =
       numbered = few (length line) (length text - length after) number true small;
       fault = rw answer.1 (goes_on given number text rest line after some i.within c.cut_line.ensures.line c.cut_line.ensures.after i.fault small answer.0);
       given = rw (answer.1, c.cut_line.ensures.after, c.cut_line.ensures.line) (sym (given_step given rest some) ∙ i.given);
-      too_many_at = rw (c.first_too_many-too_many_at.ensures, c.cut_line.ensures.after)
-          (too_many_more c.loop-rest.too_many_at given (given_of c.in-Ok.next) number rest (too_many_words_at text) some (answer.1 ∙ ap (give_line given) c.cut_line.ensures.line) i.too_many_at);
     }
 
 pub returns-in-Some : goal.returns-in-Some
@@ -101,4 +96,4 @@ returns-in-None c =
     let sound : first_fault text ≡ None =
     sym i.fault ∙ fault_end given c.loop-rest.number (length text - length rest) (length text) rest empty ∙ ap (λ last. at c.loop-rest.number (end_fault last)) (sym c.last.ensures)
     ∙ ap (at c.loop-rest.number) (sym c.in-None.ensures) in
-    (sound, (held, too_many_all c.loop-rest.too_many_at given c.loop-rest.number rest (too_many_words_at text) empty i.too_many_at))
+    (sound, held)

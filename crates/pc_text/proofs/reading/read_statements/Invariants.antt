@@ -1,8 +1,6 @@
 use Rattle.std.proofs.Common.{◌≡◌, ◌-◌, ◌≤◌, length}
-use Rattle.std.specs.Option.{option_or}
 use Rattle.pc_base.specs.Lines.{lines}
 use Rattle.pc_text.specs.FirstFault.{fault_from, given_from, first_fault, given_by}
-use Rattle.pc_text.specs.TooManyWords.{too_many_from, too_many_words_at}
 use Rattle.pc_text.specs.Draft.{given_of}
 use Rattle.pc_text.proofs.reading.read_statements.Given as goal
 
@@ -12,7 +10,6 @@ invariant-loop-rest l = record {
   numbered : l.number ≤ 8193;
   fault : fault_from (given_of l.draft) l.number (length l.text - length l.rest) (length l.text) (lines l.rest) ≡ first_fault l.text;
   given : given_from (given_of l.draft) (lines l.rest) ≡ given_by l.text;
-  too_many_at : option_or l.too_many_at (too_many_from (given_of l.draft) l.number (lines l.rest)) ≡ too_many_words_at l.text;
 }
 
 abbrev pub decreases-loop-rest : goal.decreases-loop-rest

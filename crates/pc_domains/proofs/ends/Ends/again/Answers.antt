@@ -15,6 +15,16 @@ returns-in_err-tails_again-in-Least-Tails-clause-steps g c =
     subst (λ s. c.tails_again.new.steps ≤ c.args.steps.now + slots_again s c.args.diagram.now c.args.variable) (sym c.in-Least-Tails.is-1)
     (tail_label_steps c.args.diagram.now c.args.choices.now c.args.variable c.tails_again.new.steps c.args.steps.now c.requires.choices c.tails_again.ensures.steps)
 
+pub returns-in_err-heads_again-in-Pairs-Heads-clause-steps : goal.returns-in_err-heads_again-in-Pairs-Heads-clause-steps
+returns-in_err-heads_again-in-Pairs-Heads-clause-steps g c =
+    subst (λ s. c.heads_again-in-Pairs-Heads.new.steps ≤ c.args.steps.now + slots_again s c.args.diagram.now c.args.variable) (sym c.in-Pairs-Heads.is-1)
+    (head_front_steps c.args.diagram.now c.args.variable c.heads_again-in-Pairs-Heads.new.steps c.args.steps.now c.requires.variable c.heads_again-in-Pairs-Heads.ensures.steps)
+
+pub returns-in_err-tails_again-in-Pairs-Tails-clause-steps : goal.returns-in_err-tails_again-in-Pairs-Tails-clause-steps
+returns-in_err-tails_again-in-Pairs-Tails-clause-steps g c =
+    subst (λ s. c.tails_again-in-Pairs-Tails.new.steps ≤ c.args.steps.now + slots_again s c.args.diagram.now c.args.variable) (sym c.in-Pairs-Tails.is-1)
+    (tail_front_steps c.args.diagram.now c.args.variable c.tails_again-in-Pairs-Tails.new.steps c.args.steps.now c.requires.variable c.tails_again-in-Pairs-Tails.ensures.steps)
+
 pub returns-clause-steps : goal.returns-clause-steps
 returns-clause-steps g c =
     elim c.match-self.branch [
