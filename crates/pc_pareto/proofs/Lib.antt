@@ -13,3 +13,4 @@ pub mod StageLemmas
 pub mod SweepLemmas
 pub mod WordFrontLemmas
 pub mod WholeLemmas
+pub mod ReducedLemmas

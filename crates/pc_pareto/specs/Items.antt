@@ -36,6 +36,11 @@ pub record IsFrontOf (items kept : List FrontItem) : Type 0 where
   pub among : All (Contains items) kept
   pub covered : All (IsCovered kept) items
 
+-- items that are taken of others and cover all of these
+pub record IsReduced (items left : List FrontItem) : Type 0 where
+  pub among : All (Contains items) left
+  pub covered : All (IsCovered left) items
+
 -- one item's rank is less than another's
 abbrev pub has_less_rank : FrontItem → FrontItem → Bool
 has_less_rank item other = nat_lt item.back.rank other.back.rank

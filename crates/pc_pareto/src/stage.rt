@@ -7,7 +7,7 @@ ghost use Rattle.pc_pareto.specs.declared.arrival.Arrival.{Arrival};
 ghost use Rattle.pc_pareto.specs.declared.limits.TheConstants.{MOST_LABELS, MOST_RANKS};
 ghost use Rattle.pc_pareto.specs.Bounds.{IsSmallNode, IsScaleWithin};
 ghost use Rattle.pc_pareto.specs.Faults.{IsFaultAt};
-ghost use Rattle.pc_pareto.specs.Items.{IsFrontOf};
+ghost use Rattle.pc_pareto.specs.Items.{IsFrontOf, IsReduced};
 ghost use Rattle.pc_pareto.specs.Stages.{candidates, AreStageOf, front_size, stage_size};
 
 use crate::arrival::Arrival;
@@ -16,6 +16,7 @@ use crate::front_fault::FrontFault;
 use crate::front_item::FrontItem;
 use crate::limits::MOST_LABELS;
 use crate::run::push_run;
+use crate::sweep::keep_front;
 use pc_base::{NoMemory, Sequence};
 use pc_diagram::{CostPair, Side};
 use std::alloc::Global;
@@ -56,7 +57,7 @@ pub(crate) fn next_stage(
     Ok(stage)
 }
 
-/// The front of a node, of what comes along the edges into it.
+/// The front of a node, of what comes along the edges into it. Where more than two come, what is beaten goes on the way.
 pub(crate) fn node_front(
     alloc: Global,
     side: Side,
@@ -73,11 +74,24 @@ pub(crate) fn node_front(
     ensures { IfOk result (λ front. IsFrontOf (candidates side scale row.now before.now arrivals.now) front) }
 {
     let mut offered = Vec::with_capacity(alloc, room_of(before, arrivals))?;
+    let mut most = if arrivals.len() > 2 { 0 } else { usize::MAX };
     for arrival in arrivals {
         let items = before[arrival.node as usize].as_slice();
         push_run(&mut offered, side, scale, row, *arrival, items)?;
+        most = reduce(&mut offered, most)?;
     }
     Front::of(offered)
+}
+
+/// Leaves of more than so many items their front. Gives how many may be there the next time: twice those that are left.
+fn reduce(items: &mut Vec<FrontItem>, most: usize) -> Result<usize, NoMemory>
+    ensures { OnOk result (IsReduced items.old.items items.new.items) }
+{
+    if items.len() <= most {
+        return Ok(most);
+    }
+    keep_front(items)?;
+    Ok(items.len().saturating_mul(2))
 }
 
 /// How many items come along edges, all in all.
