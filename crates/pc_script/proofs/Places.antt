@@ -9,7 +9,7 @@ use Rattle.pc_file.specs.Limits.{Contents}
 use Rattle.pc_calls.specs.Decision.{Decision}
 use Rattle.pc_calls.specs.Selection.{Selection}
 use Rattle.pc_session.specs.declared.answer.Answer as declared
-use Rattle.pc_session.specs.Visit.{Visit, answer_to, visit_after}
+use Rattle.pc_session.specs.Visit.{Visit, session_answer, visit_after}
 use Rattle.pc_script.specs.Visits.{has_number, plain_head, reply_at, reply_among, shown_with, visit_reply, visits_after, without_number}
 
 none-passes : {X : Type 0} (p : X → Bool) (xs : List X) → position p xs ≡ None → (k : ℕ) (d : X) → k < length xs → p (slice_index_or xs k d) ≡ false
@@ -85,12 +85,12 @@ at_place number visits place visit is same =
 
 -- the reply to what a session answered
 pub replied_is : (visit : Visit) (given : Decision Selection)
-    → record { head = plain_head (visit_after visit given).number (visit_after visit given).version (answer_to visit.file given).outcome; shown = shown_with (visit_after visit given).file (answer_to visit.file given).listing } ≡ visit_reply visit given
+    → record { head = plain_head (visit_after visit given).number (visit_after visit given).version (session_answer visit.file given).outcome; shown = shown_with (visit_after visit given).file (session_answer visit.file given).listing } ≡ visit_reply visit given
 replied_is visit (Ok selection) = refl
 replied_is visit (Err refusal) = refl
 
 pub session_reply : (number : ℕ) (ask : Contents → Selection → Decision Selection) (visits : List Visit) (visit later : Visit) (answer : declared.Answer)
-    → find (has_number number) visits ≡ Some visit → later ≡ visit_after visit (ask visit.file visit.selection) → answer ≡ answer_to visit.file (ask visit.file visit.selection)
+    → find (has_number number) visits ≡ Some visit → later ≡ visit_after visit (ask visit.file visit.selection) → answer ≡ session_answer visit.file (ask visit.file visit.selection)
     → record { head = plain_head later.number later.version answer.outcome; shown = shown_with later.file answer.listing } ≡ reply_among number ask visits
 session_reply number ask visits visit later answer found after is =
     ap (λ (v : Visit). record { head = plain_head v.number v.version answer.outcome; shown = shown_with v.file answer.listing }) after

@@ -13,7 +13,7 @@ use Rattle.pc_conn.specs.declared.body.Body.TheVariants.{File, Fault, Cut}
 use Rattle.pc_script.specs.declared.item.Said.{Said}
 use Rattle.pc_script.specs.declared.script_end.ScriptEnd.{ScriptEnd}
 use Rattle.pc_script.specs.declared.script_end.ScriptEnd.TheVariants.{Ended, ReadFault, WriteFault, TooLong, NoMemory}
-use Rattle.pc_script.specs.declared.turn.Next.{Next}
+use Rattle.pc_script.specs.declared.turn.SaidNext.{SaidNext}
 use Rattle.pc_script.specs.declared.turn.Turn.{Turn}
 use Rattle.pc_script.specs.declared.turn.Turn.TheVariants.{Going, Last}
 use Rattle.pc_script.specs.Script.{commanded, answers, after_lines, last_answers, said_text, said_after}
@@ -60,7 +60,7 @@ HearsTurn state said Going before after = SaysNext state said before after
 HearsTurn state said Last before after = SaysLast state said before after
 
 -- what was heard
-abbrev pub Hears : State → Result (Option Next) ScriptEnd → Moment → Moment → Type 0
+abbrev pub Hears : State → Result (Option SaidNext) ScriptEnd → Moment → Moment → Type 0
 Hears state (Ok (Some next)) before after = HearsTurn state next.said next.turn before after
 Hears state (Ok None) before after = SaysNothing before after
 Hears state (Err Ended) before after = ⊥

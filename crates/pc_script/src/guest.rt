@@ -3,7 +3,7 @@
 ghost use Rattle.std.specs.Prelude.{◌≡◌, ◌==◌, ◌<◌, ◌≤◌, ◌+◌, ◌^◌, ◌++◌, ◌∷◌, [], not, filter, length, position, find, IfOk, OnOk, OnErr, IfSome, Some, None, Ok, Err};
 ghost use Rattle.pc_calls.specs.declared.outcome.Outcome.TheVariants.{Done};
 ghost use Rattle.pc_calls.specs.Selection.{free, show, shown};
-ghost use Rattle.pc_session.specs.Visit.{answer_to, visit_after};
+ghost use Rattle.pc_session.specs.Visit.{session_answer, visit_after};
 ghost use Rattle.pc_script.specs.Change.{changed};
 ghost use Rattle.pc_script.specs.Visits.{has_number, no_session_reply, plain_head, close_reply, reply_among, shown_with, visits_after, without_number};
 
@@ -88,7 +88,7 @@ fn changed<L: Ledger>(
     requires name { blank.name ≡ L.name }
     requires parts { blank.parts ≡ L.parts }
     requires some { 0 < blank.parts }
-    ensures answer { IfOk result (λ answer. answer ≡ answer_to session.old.file (changed change session.old.file session.old.selection)) }
+    ensures answer { IfOk result (λ answer. answer ≡ session_answer session.old.file (changed change session.old.file session.old.selection)) }
     ensures session { OnOk result (session.new ≡ visit_after session.old (changed change session.old.file session.old.selection)) }
     ensures kept { OnErr result (session.new ≡ session.old) }
 {

@@ -10,7 +10,7 @@ ghost use Rattle.pc_script.specs.declared.script_end.ScriptEnd.TheVariants.{Read
 use crate::item::Heard;
 use crate::script_end::ScriptEnd;
 use crate::shop::Shop;
-use crate::turn::{Next, Turn};
+use crate::turn::{SaidNext, Turn};
 use pc_conn::{Body, read_body};
 use pc_io::{Lines, Source};
 use std::alloc::Global;
@@ -21,7 +21,7 @@ pub fn hear_next<S: Source>(
     shop: &Shop,
     lines: &mut Lines,
     source: &mut S,
-) -> Result<Option<Next>, ScriptEnd>
+) -> Result<Option<SaidNext>, ScriptEnd>
     requires going { lines.old.ended ≡ false }
     requires sound { lines.old.fault ≡ None }
     ensures hears { Hears shop.now result
@@ -40,14 +40,14 @@ pub fn hear_next<S: Source>(
         return Ok(None);
     };
     match shop.hear(&line) {
-        Heard::Said(said) => Ok(Some(Next {
+        Heard::Said(said) => Ok(Some(SaidNext {
             said,
             turn: Turn::Going,
         })),
         Heard::Publish(awaited) => {
             let body = read_body(alloc, lines, source, awaited.publish.lines)?;
             let turn = turn_after(&body);
-            Ok(Some(Next {
+            Ok(Some(SaidNext {
                 said: awaited.with(body),
                 turn,
             }))

@@ -11,7 +11,7 @@ pub enum Turn {
 
 /// What is said next, and whether anything may come after it.
 #[derive(Debug, Drop)]
-pub struct Next {
+pub struct SaidNext {
     pub said: Said,
     pub turn: Turn,
 }

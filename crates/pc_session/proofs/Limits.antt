@@ -28,7 +28,7 @@ module _ (file : Contents) (raw : RawDiagram) (canonical : IsCanonical raw) (dom
   alike : (word : List ℕ) → has_word raw word ≡ is_full file word
   alike word = sym (word_accepted raw word) ∙ ap (list_any (pointwise nat_eq word)) same
 
-  side_of_file : (choices : List Choice) (side : Side) → boards.side_limit MOST_LABELS raw costs choices side ≡ calls.side_limit MOST_LABELS file choices side
+  side_of_file : (choices : List Choice) (side : Side) → boards.side_limit MOST_LABELS raw costs choices side ≡ calls.limit_of_side MOST_LABELS file choices side
   side_of_file choices side =
       ap (λ l. option_map (λ distance. (side, layer_at side (length raw.domains) distance)) l) (sym (limits_agree raw canonical costs choices MOST_LABELS side))
       ∙ (λ i. option_map (λ distance. (side, layer_at side (length (domains i)) distance)) (word_limit_at MOST_LABELS side (λ word. alike word i) (domains i) (priced i) choices))

@@ -37,7 +37,7 @@ use Rattle.pc_session.specs.declared.answer.Answer.{Answer}
 use Rattle.pc_session.specs.declared.next.Next.{Next}
 use Rattle.pc_session.specs.declared.next.Next.TheVariants.{Same, Moved, Refused}
 use Rattle.pc_session.specs.Next.{IsLimitOf, IsMovedTo, IsNext, answer_by, asked_by, board_by}
-use Rattle.pc_session.specs.Visit.{Visit, answer_to, visit_after}
+use Rattle.pc_session.specs.Visit.{Visit, session_answer, visit_after}
 use Rattle.pc_session.proofs.Limits.{limit_of_file}
 use Rattle.pc_session.proofs.ListedLemmas.{in_listing}
 
@@ -201,10 +201,10 @@ module _ (version : Version) where
 
 -- ---- what is answered
 
-pub answers_next : (version : Version) (before : Selection) (decision : Decision Selection) (next : Next) → IsNext version before decision next → answer_by next ≡ answer_to version.file decision
-answers_next version before decision (Same rows) h = (λ i. record { outcome = outcome.Done; listing = Some (h.1 i) }) ∙ ap (answer_to version.file) (sym h.0)
-answers_next version before decision (Moved board rows) h = (λ i. record { outcome = outcome.Done; listing = Some (h.2 i) }) ∙ ap (answer_to version.file) (sym h.1)
-answers_next version before decision (Refused refusal) h = ap (answer_to version.file) (sym h)
+pub answers_next : (version : Version) (before : Selection) (decision : Decision Selection) (next : Next) → IsNext version before decision next → answer_by next ≡ session_answer version.file decision
+answers_next version before decision (Same rows) h = (λ i. record { outcome = outcome.Done; listing = Some (h.1 i) }) ∙ ap (session_answer version.file) (sym h.0)
+answers_next version before decision (Moved board rows) h = (λ i. record { outcome = outcome.Done; listing = Some (h.2 i) }) ∙ ap (session_answer version.file) (sym h.1)
+answers_next version before decision (Refused refusal) h = ap (session_answer version.file) (sym h)
 
 pub board_next : (version : Version) (board : Board) (decision : Decision Selection) (next : Next) → IsBoardOf version.diagram version.costs board → IsNext version (asked_by board) decision next → IsBoardOf version.diagram version.costs (board_by board next)
 board_next version board decision (Same rows) is h = is

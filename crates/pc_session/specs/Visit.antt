@@ -14,9 +14,9 @@ pub record Visit : Type 0 where
   pub selection : Selection
 
 -- what is answered to a call that gives this: the listing of what is asked then, or the refusal
-abbrev pub answer_to : Contents → Decision Selection → declared.Answer
-answer_to file (Ok selection) = record { outcome = Done; listing = Some (shown file selection) }
-answer_to file (Err refusal) = record { outcome = refusal; listing = None }
+abbrev pub session_answer : Contents → Decision Selection → declared.Answer
+session_answer file (Ok selection) = record { outcome = Done; listing = Some (shown file selection) }
+session_answer file (Err refusal) = record { outcome = refusal; listing = None }
 
 -- the session after such a call
 abbrev pub visit_after : Visit → Decision Selection → Visit

@@ -4,7 +4,7 @@ ghost use Rattle.std.specs.Prelude.{◌≡◌, ◌<◌, ◌≤◌, ◌+◌, IfOk
 ghost use Rattle.pc_file.specs.Positions.{variable_named};
 ghost use Rattle.pc_calls.specs.Selection.{bound, choose, free, retract, shown, unbound};
 ghost use Rattle.pc_session.specs.Slots.{choose_steps, retract_steps};
-ghost use Rattle.pc_session.specs.Visit.{answer_to, visit_after};
+ghost use Rattle.pc_session.specs.Visit.{session_answer, visit_after};
 
 use crate::answer::Answer;
 use crate::boards::{free_board, listing_of};
@@ -125,7 +125,7 @@ impl Session {
         value: &Name,
         steps: &mut Steps<L>,
     ) -> Result<Answer, NoMemory>
-        ensures answer { IfOk result (λ answer. answer ≡ answer_to self.old.file (choose variable.now value.now self.old.file self.old.selection)) }
+        ensures answer { IfOk result (λ answer. answer ≡ session_answer self.old.file (choose variable.now value.now self.old.file self.old.selection)) }
         ensures session { OnOk result (self.new ≡ visit_after self.old (choose variable.now value.now self.old.file self.old.selection)) }
         ensures kept { OnErr result (self.new ≡ self.old) }
         ensures steps { steps.new ≤ steps.old + choose_steps self.old.file (variable_named self.old.file variable.now) }
@@ -145,7 +145,7 @@ impl Session {
         variable: &Name,
         steps: &mut Steps<L>,
     ) -> Result<Answer, NoMemory>
-        ensures answer { IfOk result (λ answer. answer ≡ answer_to self.old.file (retract variable.now self.old.file self.old.selection)) }
+        ensures answer { IfOk result (λ answer. answer ≡ session_answer self.old.file (retract variable.now self.old.file self.old.selection)) }
         ensures session { OnOk result (self.new ≡ visit_after self.old (retract variable.now self.old.file self.old.selection)) }
         ensures kept { OnErr result (self.new ≡ self.old) }
         ensures steps { steps.new ≤ steps.old + retract_steps self.old.file (variable_named self.old.file variable.now) }
@@ -161,7 +161,7 @@ impl Session {
     ///
     /// Want of memory.
     pub fn bound(&mut self, cost: &Name, most: i64) -> Result<Answer, NoMemory>
-        ensures answer { IfOk result (λ answer. answer ≡ answer_to self.old.file (bound cost.now most self.old.file self.old.selection)) }
+        ensures answer { IfOk result (λ answer. answer ≡ session_answer self.old.file (bound cost.now most self.old.file self.old.selection)) }
         ensures session { OnOk result (self.new ≡ visit_after self.old (bound cost.now most self.old.file self.old.selection)) }
         ensures kept { OnErr result (self.new ≡ self.old) }
     {
@@ -176,7 +176,7 @@ impl Session {
     ///
     /// Want of memory.
     pub fn unbound(&mut self, cost: &Name) -> Result<Answer, NoMemory>
-        ensures answer { IfOk result (λ answer. answer ≡ answer_to self.old.file (unbound cost.now self.old.file self.old.selection)) }
+        ensures answer { IfOk result (λ answer. answer ≡ session_answer self.old.file (unbound cost.now self.old.file self.old.selection)) }
         ensures session { OnOk result (self.new ≡ visit_after self.old (unbound cost.now self.old.file self.old.selection)) }
         ensures kept { OnErr result (self.new ≡ self.old) }
     {

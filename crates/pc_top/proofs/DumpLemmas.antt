@@ -6,16 +6,16 @@ use Rattle.pc_diagram.specs.Diagram.{IsCanonical}
 use Rattle.pc_diagram.specs.Paths.{words}
 use Rattle.pc_file.specs.Contents.{Contents}
 use Rattle.pc_file.specs.Full.{full, full_domains}
-use Rattle.pc_top.specs.declared.reply.Reply.{Reply}
+use Rattle.pc_top.specs.declared.response.Response.{Response}
 use Rattle.pc_top.specs.declared.status.Status.TheVariants.{Refused}
 use Rattle.pc_top.specs.DumpMeans.{DumpMeans, dumped_text}
 use Rattle.pc_top.specs.Output.{Output}
 use Rattle.pc_top.specs.Refusals.{file_given, text_refusal}
-use Rattle.pc_top.specs.Reply.{Is}
+use Rattle.pc_top.specs.Response.{Is}
 use Rattle.pc_top.proofs.RefusalLemmas.{is_buildable, refuses_rightly}
 
 -- a version's diagram is told
-pub means_dumped : {E : Type 0} (text : List ℕ) (file : Contents) (diagram : RawDiagram) (result : Result Reply E) → text_refusal text ≡ None → file ≡ file_given text →
+pub means_dumped : {E : Type 0} (text : List ℕ) (file : Contents) (diagram : RawDiagram) (result : Result Response E) → text_refusal text ≡ None → file ≡ file_given text →
     IsCanonical diagram → diagram.domains ≡ full_domains file → words diagram ≡ full file →
     IfOk result (λ reply. Is reply (dumped_text diagram)) → IfOk result (λ reply. DumpMeans reply.status text reply.text)
 means_dumped text file diagram (Ok reply) none same canonical domains words_are is =
@@ -33,7 +33,7 @@ means_dumped text file diagram (Ok reply) none same canonical domains words_are 
 means_dumped text file diagram (Err fault) none same canonical domains words_are is = tt
 
 -- what is refused is told
-pub means_refused : (text : List ℕ) (reply : Reply) (output : Output) → text_refusal text ≡ Some output → Is reply output → DumpMeans reply.status text reply.text
+pub means_refused : (text : List ℕ) (reply : Response) (output : Output) → text_refusal text ≡ Some output → Is reply output → DumpMeans reply.status text reply.text
 means_refused text reply output refused is =
     let rightly = refuses_rightly text output refused in
     subst (λ s. DumpMeans s text reply.text) (sym (is.status ∙ rightly.status))

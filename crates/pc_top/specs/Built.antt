@@ -5,7 +5,7 @@ use Rattle.pc_file.specs.Contents.{Contents}
 use Rattle.pc_top.specs.declared.building.Built.{Built}
 use Rattle.pc_top.specs.declared.building.Built.TheVariants.{Version as version, Refused}
 use Rattle.pc_top.specs.Output.{Output}
-use Rattle.pc_top.specs.Reply.{Is}
+use Rattle.pc_top.specs.Response.{Is}
 
 -- where nothing is refused the version of a file, with a canonical diagram; else what is refused
 abbrev pub IsBuilt : Contents → Option Output → Built → Type 0

@@ -5,15 +5,15 @@ use Rattle.pc_top.specs.declared.form.Form.{Form}
 use Rattle.pc_top.specs.declared.form.Form.TheVariants.{List, Dump, Check, Script}
 use Rattle.pc_top.specs.declared.status.Status.{Status}
 use Rattle.pc_top.specs.declared.job.Job.TheVariants as job
-use Rattle.pc_top.specs.Outcome.{Answers}
+use Rattle.pc_top.specs.Outcome.{AnswersJob}
 use Rattle.pc_top.specs.ScriptStatus.{RunsScript}
 use Rattle.pc_top.specs.Status.{code}
 
 -- ends with a status, and leaves this
 abbrev pub Does : Form → Status → Ends → Ends → Type 0
-Does List = Answers job.List
-Does Dump = Answers job.Dump
-Does Check = Answers job.Check
+Does List = AnswersJob job.List
+Does Dump = AnswersJob job.Dump
+Does Check = AnswersJob job.Check
 Does Script = RunsScript
 
 -- the same, with the exit status

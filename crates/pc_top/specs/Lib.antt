@@ -8,7 +8,7 @@ pub mod ListReply
 pub mod Outcome
 pub mod Output
 pub mod Refusals
-pub mod Reply
+pub mod Response
 pub mod ScriptStatus
 pub mod Status
 pub mod Words

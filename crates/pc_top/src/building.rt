@@ -5,7 +5,7 @@ ghost use Rattle.pc_top.specs.Built.{IsBuilt};
 ghost use Rattle.pc_top.specs.Refusals.{file_given, file_refusal, text_refusal};
 
 use crate::refusals::{refused_no_product, refused_node_limit, refused_text};
-use crate::reply::Reply;
+use crate::response::Response;
 use pc_base::NoMemory;
 use pc_build::{BuildFault, Version, compile};
 use pc_file::SharedFile;
@@ -16,7 +16,7 @@ use std::alloc::Global;
 #[derive(Debug, Drop)]
 pub enum Built {
     Version(Version),
-    Refused(Reply),
+    Refused(Response),
 }
 
 /// The version of the file that a text spells, or why there is none.

@@ -3,9 +3,9 @@
 ghost use Rattle.std.specs.Prelude.{◌≢◌, sum, IfOk, OnOk};
 ghost use Rattle.pc_diagram.specs.Levels.{edge_count};
 ghost use Rattle.pc_top.specs.CheckMeans.{CheckTells, good, refused_at, refused_diagram, refused_form};
-ghost use Rattle.pc_top.specs.Reply.{Is};
+ghost use Rattle.pc_top.specs.Response.{Is};
 
-use crate::reply::Reply;
+use crate::response::Response;
 use crate::status::Status;
 use pc_base::{NoMemory, Text};
 use pc_diagram::{Diagram, DiagramFault};
@@ -14,7 +14,7 @@ use std::alloc::Global;
 
 /// What is told of a dump's lines: how many nodes and edges the diagram has whose text they are; or one line that says
 /// why they are that of none.
-pub fn check_reply(alloc: Global, dump: Dump) -> Result<Reply, NoMemory>
+pub fn check_reply(alloc: Global, dump: Dump) -> Result<Response, NoMemory>
     ensures { IfOk result (λ reply. CheckTells dump reply.status reply.text) }
 {
     match dump {
@@ -27,7 +27,7 @@ pub fn check_reply(alloc: Global, dump: Dump) -> Result<Reply, NoMemory>
 }
 
 /// The line for a diagram.
-fn good(alloc: Global, diagram: &Diagram) -> Result<Reply, NoMemory>
+fn good(alloc: Global, diagram: &Diagram) -> Result<Response, NoMemory>
     ensures { IfOk result (λ reply. Is reply (good (sum diagram.now.sizes) (edge_count diagram.now))) }
 {
     let mut text = Text::from_slice(alloc, b"good ")?;
@@ -35,27 +35,27 @@ fn good(alloc: Global, diagram: &Diagram) -> Result<Reply, NoMemory>
     text.push(b' ')?;
     text.push_unsigned(diagram.edge_count())?;
     text.push(b'\n')?;
-    Ok(Reply {
+    Ok(Response {
         status: Status::Done,
         text,
     })
 }
 
 /// The line for lines that aren't the text of tables.
-fn refused_form(alloc: Global, line: u64) -> Result<Reply, NoMemory>
+fn refused_form(alloc: Global, line: u64) -> Result<Response, NoMemory>
     ensures { IfOk result (λ reply. Is reply (refused_form line)) }
 {
     let mut text = Text::from_slice(alloc, b"refused form ")?;
     text.push_unsigned(line)?;
     text.push(b'\n')?;
-    Ok(Reply {
+    Ok(Response {
         status: Status::Refused,
         text,
     })
 }
 
 /// The line for tables that are those of no diagram.
-fn refused_diagram(alloc: Global, fault: DiagramFault) -> Result<Reply, NoMemory>
+fn refused_diagram(alloc: Global, fault: DiagramFault) -> Result<Response, NoMemory>
     ensures is { IfOk result (λ reply. Is reply (refused_diagram fault)) }
     ensures named { OnOk result (fault ≢ DiagramFault.NoMemory) }
 {
@@ -70,7 +70,7 @@ fn refused_diagram(alloc: Global, fault: DiagramFault) -> Result<Reply, NoMemory
     }
 }
 
-fn refused_at(alloc: Global, kind: &[u8], layer: u32, node: u32) -> Result<Reply, NoMemory>
+fn refused_at(alloc: Global, kind: &[u8], layer: u32, node: u32) -> Result<Response, NoMemory>
     ensures { IfOk result (λ reply. Is reply (refused_at kind.now layer node)) }
 {
     let mut text = Text::from_slice(alloc, b"refused diagram ")?;
@@ -80,7 +80,7 @@ fn refused_at(alloc: Global, kind: &[u8], layer: u32, node: u32) -> Result<Reply
     text.push(b' ')?;
     text.push_unsigned(u64::from(node))?;
     text.push(b'\n')?;
-    Ok(Reply {
+    Ok(Response {
         status: Status::Refused,
         text,
     })

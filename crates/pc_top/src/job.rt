@@ -6,10 +6,10 @@ ghost use Rattle.pc_io.specs.declared.line_fault.LineFault.{LineFault};
 ghost use Rattle.pc_io.specs.Ends.{ends};
 ghost use Rattle.pc_io.specs.NextLine.{is_outside_fault};
 ghost use Rattle.pc_top.specs.declared.status.Status.TheVariants.{ReadFault, WriteFault};
-ghost use Rattle.pc_top.specs.Outcome.{Answers, IsReply, broken};
+ghost use Rattle.pc_top.specs.Outcome.{AnswersJob, IsReply, job_limit};
 
 use crate::check_reply::check_reply;
-use crate::reply::Reply;
+use crate::response::Response;
 use crate::status::Status;
 use pc_dump::read_dump;
 use pc_file::TEXT_BYTES;
@@ -35,9 +35,9 @@ pub enum Job {
 
 impl Job {
     /// Reads an input to its end, and answers it. A dump is read as a stream of lines, never held as a whole.
-    fn reply<S: Source>(self, alloc: Global, source: &mut S) -> Result<Reply, LineFault>
+    fn reply<S: Source>(self, alloc: Global, source: &mut S) -> Result<Response, LineFault>
         ensures replies { IfOk result (λ reply. IsReply self reply.status reply.text (S.rest source.old) (S.rest source.new)) }
-        ensures long { IfErr result (λ fault. is_outside_fault fault ≡ false → IfSome (S.rest source.old) (λ text. broken self text ≡ Some fault)) }
+        ensures long { IfErr result (λ fault. is_outside_fault fault ≡ false → IfSome (S.rest source.old) (λ text. job_limit self text ≡ Some fault)) }
         ensures failed { result ≡ Err LineFault.ReadFault → Rose (S.read_faults source.old) (S.read_faults source.new) }
         ensures counted { S.read_faults source.old ≤ S.read_faults source.new }
         ensures aside { S.read_aside source.new ≡ S.read_aside source.old }
@@ -45,11 +45,11 @@ impl Job {
         match self {
             Job::List => {
                 let text = whole_text(alloc, source, MOST_LINE_BYTES, MOST_TEXT_BYTES)?;
-                Ok(Reply::to_list(alloc, text.as_slice())?)
+                Ok(Response::to_list(alloc, text.as_slice())?)
             }
             Job::Dump => {
                 let text = whole_text(alloc, source, MOST_LINE_BYTES, MOST_TEXT_BYTES)?;
-                Ok(Reply::to_dump(alloc, text.as_slice())?)
+                Ok(Response::to_dump(alloc, text.as_slice())?)
             }
             Job::Check => {
                 let dump = read_dump(alloc, source, MOST_LINE_BYTES, MOST_DUMP_BYTES)?;
@@ -62,7 +62,7 @@ impl Job {
 /// Reads an input to its end, and writes its answer at once.
 pub fn answer<S: Source, K: Sink>(alloc: Global, job: Job, source: &mut S, sink: &mut K) -> Status
     ensures answers { let seen = ends S.rest S.read_faults K.written K.write_faults in
-        Answers job result (seen source.old sink.old) (seen source.new sink.new) }
+        AnswersJob job result (seen source.old sink.old) (seen source.new sink.new) }
     ensures read_fault { result ≡ ReadFault → Rose (S.read_faults source.old) (S.read_faults source.new) }
     ensures write_fault { result ≡ WriteFault → Rose (K.write_faults sink.old) (K.write_faults sink.new) }
     ensures counted_reads { S.read_faults source.old ≤ S.read_faults source.new }

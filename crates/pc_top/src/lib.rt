@@ -9,7 +9,7 @@ pub mod laws;
 mod listing;
 mod program;
 mod refusals;
-mod reply;
+mod response;
 mod script;
 mod status;
 

@@ -1,5 +1,5 @@
 use Rattle.pc_top.proofs.ListLemmas.{listed_is, means_exact, refused_is, reply_means}
-use Rattle.pc_top.proofs.reply.Reply.to_list.Goals as goal
+use Rattle.pc_top.proofs.response.Response.to_list.Goals as goal
 
 pub returns-in-Version-clause-exact : goal.returns-in-Version-clause-exact
 returns-in-Version-clause-exact c =

@@ -1,5 +1,5 @@
 use Rattle.pc_top.proofs.DumpLemmas.{means_dumped, means_refused}
-use Rattle.pc_top.proofs.reply.Reply.to_dump.Goals as goal
+use Rattle.pc_top.proofs.response.Response.to_dump.Goals as goal
 
 pub returns-in-Version : goal.returns-in-Version
 returns-in-Version c =
