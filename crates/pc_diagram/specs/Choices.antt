@@ -1,5 +1,5 @@
 -- Choices of values for variables, in order.
-use Rattle.std.specs.Prelude.{ℕ, List, [], ◌∷◌, Bool, true, not, ◌&&◌, ◌==◌, Option, option_map, find, filter}
+use Rattle.std.specs.Prelude.{ℕ, ◌≡◌, ◌≢◌, List, [], ◌∷◌, Bool, true, not, ◌&&◌, ◌==◌, Option, option_map, find, filter}
 use Rattle.std.specs.List.{list_any}
 use Rattle.pc_diagram.specs.declared.choice.Choice.{Choice}
 
@@ -10,6 +10,10 @@ is_chosen choices variable = list_any (λ c. c.variable == variable) choices
 -- the value chosen for a variable
 abbrev pub value_of : List Choice → ℕ → Option ℕ
 value_of choices variable = option_map (λ c. c.value) (find (λ c. c.variable == variable) choices)
+
+-- choices that agree at every variable other than one
+abbrev pub AgreeBeside : ℕ → List Choice → List Choice → Type 0
+AgreeBeside variable choices others = (other : ℕ) → other ≢ variable → value_of choices other ≡ value_of others other
 
 -- the choices of the other variables
 abbrev pub without : List Choice → ℕ → List Choice

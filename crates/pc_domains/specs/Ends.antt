@@ -8,8 +8,9 @@ use Rattle.pc_diagram.specs.declared.raw_diagram.RawDiagram.{RawDiagram}
 use Rattle.pc_diagram.specs.declared.side.Side.{Side}
 use Rattle.pc_diagram.specs.declared.side.Side.TheVariants.{Heads, Tails}
 use Rattle.pc_diagram.specs.Bounds.{allows_pair}
+use Rattle.pc_diagram.specs.Choices.{AgreeBeside}
 use Rattle.pc_labels.specs.Kept.{Kept, KeptPaths, kept_at}
-use Rattle.pc_labels.specs.Labels.{AgreeBeside, AreHeads, AreTails}
+use Rattle.pc_labels.specs.Labels.{AreHeads, AreTails}
 use Rattle.pc_pareto.specs.Fronts.{items_at}
 use Rattle.pc_pareto.specs.FrontsView.{IsFrontsOf, distance_of, stages_of}
 use Rattle.pc_pareto.specs.Items.{pair_of}

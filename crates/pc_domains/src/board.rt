@@ -4,14 +4,13 @@ ghost use Rattle.std.specs.Prelude.{◌≡◌, ◌<◌, ◌≤◌, ◌+◌, ◌*
 ghost use Rattle.pc_diagram.specs.Fitting.{fitting};
 ghost use Rattle.pc_diagram.specs.Listing.{items, listing};
 ghost use Rattle.pc_diagram.specs.Paths.{words};
-ghost use Rattle.pc_diagram.specs.Choices.{is_chosen, without};
+ghost use Rattle.pc_diagram.specs.Choices.{is_chosen, without, AgreeBeside};
 ghost use Rattle.pc_diagram.specs.Diagram.{IsCanonical};
 ghost use Rattle.pc_diagram.specs.NodePaths.{AreChoicesOf, AreCostsOf};
 ghost use Rattle.pc_domains.specs.BoardFaults.{IsBoardFault};
 ghost use Rattle.pc_domains.specs.Boards.{IsBoardOf};
 ghost use Rattle.pc_domains.specs.Floors.{IsEndFloor};
 ghost use Rattle.pc_domains.specs.Sides.{AreDistinctOf, listed_of};
-ghost use Rattle.pc_labels.specs.Labels.{AgreeBeside};
 ghost use Rattle.pc_domains.specs.Slots.{slots_before, slots_of};
 
 use crate::asked::kept_of;

@@ -9,7 +9,7 @@ use Rattle.pc_diagram.specs.declared.raw_diagram.RawDiagram.{RawDiagram}
 use Rattle.pc_diagram.specs.declared.side.Side.{Side}
 use Rattle.pc_diagram.specs.declared.side.Side.TheVariants.{Heads, Tails}
 use Rattle.pc_diagram.specs.Best.{best}
-use Rattle.pc_diagram.specs.Choices.{value_of}
+use Rattle.pc_diagram.specs.Choices.{value_of, AgreeBeside}
 use Rattle.pc_diagram.specs.Fitting.{is_number}
 use Rattle.pc_diagram.specs.Levels.{Level, levels, edge}
 use Rattle.pc_diagram.specs.NodePaths.{leads_to, is_allowed, agrees, is_head, is_tail, heads, tails}
@@ -17,7 +17,7 @@ use Rattle.pc_diagram.specs.Paths.{accepts}
 use Rattle.pc_diagram.specs.Words.{all_words}
 use Rattle.pc_labels.specs.Growing.{marks_at, AreLinked, AreLayers, AreHeadsUpTo, AreTailsFrom}
 use Rattle.pc_labels.specs.Kept.{Kept, KeptPaths, kept_layers, kept_row, kept_start, kept_after, kept_heads, kept_tails}
-use Rattle.pc_labels.specs.Labels.{IsLabelled, AgreeBeside, WereHeads, WereTails}
+use Rattle.pc_labels.specs.Labels.{IsLabelled, WereHeads, WereTails}
 use Rattle.pc_labels.specs.Marks.{Marks, AreMarks}
 use Rattle.pc_labels.proofs.KeptLemmas.{no_row, length-heads, length-tails}
 use Rattle.pc_labels.proofs.ViewLemmas.{shown_layers}

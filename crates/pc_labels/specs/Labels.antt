@@ -1,11 +1,11 @@
 -- The labels of a diagram's nodes: of each the cheapest path, and of several such paths the one that comes first.
-use Rattle.std.specs.Prelude.{◌≡◌, ◌≢◌, ℕ, zero, suc, ◌+◌, ◌*◌, ◌<◌, ◌≤◌, nat_lt, List, [], length, drop, slice_index, slice_index_or, if◌then◌else◌, Option, None, IfSome, option_map}
+use Rattle.std.specs.Prelude.{◌≡◌, ℕ, zero, suc, ◌+◌, ◌*◌, ◌<◌, ◌≤◌, nat_lt, List, [], length, drop, slice_index, slice_index_or, if◌then◌else◌, Option, None, IfSome, option_map}
 use Rattle.pc_diagram.specs.declared.choice.Choice.{Choice}
 use Rattle.pc_diagram.specs.declared.costs.CostPair.{CostPair}
 use Rattle.pc_diagram.specs.declared.raw_diagram.RawDiagram.{RawDiagram}
 use Rattle.pc_diagram.specs.declared.side.Side.TheVariants.{Heads, Tails}
 use Rattle.pc_diagram.specs.Best.{best}
-use Rattle.pc_diagram.specs.Choices.{is_chosen, value_of}
+use Rattle.pc_diagram.specs.Choices.{is_chosen, AgreeBeside}
 use Rattle.pc_diagram.specs.Costs.{cost_pair}
 use Rattle.pc_diagram.specs.NodePaths.{heads, tails, comes_before}
 use Rattle.pc_labels.specs.Kept.{Kept, KeptPaths}
@@ -32,10 +32,6 @@ pub record AreTails (raw : RawDiagram) (choices : List Choice) (costs : List (Li
   pub layers : length labels.layers ≡ length raw.domains + 1
   pub labelled : (layer : ℕ) → layer ≤ length raw.domains
       → IsLabelled (drop layer costs) (tails raw choices layer) (slice_index raw.sizes layer) (slice_index_or labels.layers layer [])
-
--- choices that agree at every variable other than one
-abbrev pub AgreeBeside : ℕ → List Choice → List Choice → Type 0
-AgreeBeside variable choices others = (other : ℕ) → other ≢ variable → value_of choices other ≡ value_of others other
 
 -- labels of the paths from the root, made for choices that agree with these at every variable other than one
 pub record WereHeads (raw : RawDiagram) (choices : List Choice) (costs : List (List CostPair)) (variable : ℕ) (labels : KeptPaths) : Type 0 where

@@ -12,7 +12,7 @@ use Rattle.pc_diagram.specs.declared.costs.CostPair.{CostPair}
 use Rattle.pc_diagram.specs.declared.raw_diagram.RawDiagram.{RawDiagram}
 use Rattle.pc_diagram.specs.declared.side.Side.{Side}
 use Rattle.pc_diagram.specs.declared.side.Side.TheVariants.{Heads, Tails}
-use Rattle.pc_diagram.specs.Choices.{value_of}
+use Rattle.pc_diagram.specs.Choices.{value_of, AgreeBeside}
 use Rattle.pc_diagram.specs.Fitting.{is_number}
 use Rattle.pc_diagram.specs.Levels.{levels}
 use Rattle.pc_diagram.specs.NodePaths.{leads_to, is_allowed, agrees, is_head, is_tail, heads, tails, comes_before}
@@ -22,7 +22,6 @@ use Rattle.pc_diagram.proofs.FirstBelow.{none_below}
 use Rattle.pc_diagram.proofs.PathLemmas.{length-word}
 use Rattle.pc_pareto.specs.declared.front_item.FrontItem.{FrontItem}
 use Rattle.pc_pareto.specs.declared.limits.TheConstants.{MOST_LABELS}
-use Rattle.pc_pareto.specs.Again.{AgreeBeside}
 use Rattle.pc_pareto.specs.Arrivals.{variable_at}
 use Rattle.pc_pareto.specs.Front.{is_at_most, front, Falls, IsReached}
 use Rattle.pc_pareto.specs.Fronts.{words_of, pair_of_word, front_of_node, layer_size, layer_at, sizes_from, limit_at, item_at, word_at, extended, no_item, IsFirstWith, AreFronts}

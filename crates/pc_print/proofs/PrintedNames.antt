@@ -16,7 +16,7 @@ use Rattle.pc_names.specs.Spelling.{same_spelling}
 use Rattle.pc_file.specs.Catalogue.{Indexes, variable_position, value_position}
 use Rattle.pc_file.specs.Limits.{is_reserved, is_sized, has_variable, has_value, is_row, variable_names, value_names, values_differ}
 use Rattle.pc_file.specs.PrintedRule.{printed_variable, printed_value}
-use Rattle.pc_rules.specs.Outcome.{Outcome, ◌>>=◌}
+use Rattle.pc_rules.specs.Parsed.{Parsed, ◌>>=◌}
 use Rattle.pc_rules.specs.Naming.{position_or_unknown, variable_at, value_at, all_ok, variables_at, values_at, row_at, rows_at}
 use Rattle.pc_print.specs.Nameable.{is_named, is_free, Nameable}
 use Rattle.pc_rules.proofs.ListPlaces.{nowhere, at_place, all_at}
@@ -155,7 +155,7 @@ module _ (names : Catalogue) (variables : List Variable) (holds : Indexes names 
 
   -- ---- lists of them
 
-  ok-cons : {A : Type 0} (x : A) (xs : List A) (first : Outcome A) (rest : Outcome (List A)) → first ≡ Ok x → rest ≡ Ok xs → (first >>= λ y. rest >>= λ more. Ok (y ∷ more)) ≡ Ok (x ∷ xs)
+  ok-cons : {A : Type 0} (x : A) (xs : List A) (first : Parsed A) (rest : Parsed (List A)) → first ≡ Ok x → rest ≡ Ok xs → (first >>= λ y. rest >>= λ more. Ok (y ∷ more)) ≡ Ok (x ∷ xs)
   ok-cons x xs first rest e f = ap (λ o. o >>= λ y. rest >>= λ more. Ok (y ∷ more)) e ∙ ap (λ o. o >>= λ more. Ok (x ∷ more)) f
 
   variables-all : (these : List ℕ) → list_all (has_variable variables) these ≡ true → all_ok (map (variable_at names) (map (printed_variable variables) these)) ≡ Ok these

@@ -22,7 +22,7 @@ use Rattle.pc_rules.specs.declared.phrase.Phrase.TheVariants as phrase
 use Rattle.pc_rules.specs.declared.token.Sign.TheVariants.{Arrow, NotEqual, Equal, Open, Close, OpenBrace, CloseBrace, Comma}
 use Rattle.pc_rules.specs.declared.token.Token.{Token}
 use Rattle.pc_rules.specs.declared.token.Token.TheVariants.{Mark, Word}
-use Rattle.pc_rules.specs.Outcome.{Outcome, ◌>>=◌}
+use Rattle.pc_rules.specs.Parsed.{Parsed, ◌>>=◌}
 use Rattle.pc_rules.specs.Counts.{count_of}
 use Rattle.pc_rules.specs.Token.{is_deep_after}
 use Rattle.pc_rules.specs.RuleFaults.{fault_step, test_of, has_fault}
@@ -182,7 +182,7 @@ module _ (names : Catalogue) (variables : List Variable) (holds : Indexes names 
         spells = grammar.is place (pv v) (pa v a) (printed.variable-free names variables holds are v in_file);
         cut = subst (λ (t : List ℕ). Cuts t (Word (pv v) ∷ Mark Equal ∷ Word (pa v a) ∷ [])) (sym (append_assoc (pv v) (codes "=") (pa v a)))
             (cuts-cuts (pv v) (codes "=" ++ pa v a) (Word (pv v) ∷ []) (Mark Equal ∷ Word (pa v a) ∷ []) (cuts-word (pv v) (variable-word v in_file)) (cuts-equal (pa v a) (value-word v a has)) (λ rest. refl));
-        named = of_phrase.fold-Is (Outcome Rule) (named_step names) (pv v) (pa v a)
+        named = of_phrase.fold-Is (Parsed Rule) (named_step names) (pv v) (pa v a)
             ∙ ap (λ o. o >>= λ x. value_at names x (pa v a) >>= λ y. Ok (rule.Is x y)) (printed.variable-own names variables holds are v in_file)
             ∙ ap (λ o. o >>= λ y. Ok (rule.Is v y)) (printed.value-own names variables holds are v a has);
         faultless = λ fault. of_phrase.fold-Is Bool (fault_step (test_of fault)) (pv v) (pa v a);
@@ -201,7 +201,7 @@ module _ (names : Catalogue) (variables : List Variable) (holds : Indexes names 
         cut = always-cuts (pv v ++ codes "!=") (pa v a) (Word (pv v) ∷ Mark NotEqual ∷ []) (Word (pa v a) ∷ [])
             (cuts-always-cuts (pv v) (codes "!=") (Word (pv v) ∷ []) (Mark NotEqual ∷ []) (cuts-word (pv v) (variable-word v in_file)) cuts-not_equal (λ rest. refl))
             (cuts-word (pa v a) (value-word v a has));
-        named = of_phrase.fold-IsNot (Outcome Rule) (named_step names) (pv v) (pa v a)
+        named = of_phrase.fold-IsNot (Parsed Rule) (named_step names) (pv v) (pa v a)
             ∙ ap (λ o. o >>= λ x. value_at names x (pa v a) >>= λ y. Ok (rule.IsNot x y)) (printed.variable-own names variables holds are v in_file)
             ∙ ap (λ o. o >>= λ y. Ok (rule.IsNot v y)) (printed.value-own names variables holds are v a has);
         faultless = λ fault. of_phrase.fold-IsNot Bool (fault_step (test_of fault)) (pv v) (pa v a);
@@ -223,7 +223,7 @@ module _ (names : Catalogue) (variables : List Variable) (holds : Indexes names 
             let second = always-cuts (codes "same(" ++ pv v ++ codes ", ") (pv w) (Word (codes "same") ∷ Mark Open ∷ Word (pv v) ∷ Mark Comma ∷ []) (Word (pv w) ∷ []) comma (cuts-word (pv w) (variable-word w two.1)) in
             cuts-always (codes "same(" ++ pv v ++ codes ", " ++ pv w ++ codes ")") (Word (codes "same") ∷ Mark Open ∷ Word (pv v) ∷ Mark Comma ∷ Word (pv w) ∷ Mark Close ∷ [])
             (cuts-always-cuts (codes "same(" ++ pv v ++ codes ", " ++ pv w) (codes ")") (Word (codes "same") ∷ Mark Open ∷ inside) (Mark Close ∷ []) second cuts-close (λ rest. refl));
-        named = of_phrase.fold-Same (Outcome Rule) (named_step names) (pv v) (pv w)
+        named = of_phrase.fold-Same (Parsed Rule) (named_step names) (pv v) (pv w)
             ∙ ap (λ o. o >>= λ x. variable_at names (pv w) >>= λ y. Ok (rule.Same x y)) (printed.variable-own names variables holds are v two.0)
             ∙ ap (λ o. o >>= λ y. Ok (rule.Same v y)) (printed.variable-own names variables holds are w two.1);
         faultless = λ fault. of_phrase.fold-Same Bool (fault_step (test_of fault)) (pv v) (pv w);
@@ -255,7 +255,7 @@ module _ (names : Catalogue) (variables : List Variable) (holds : Indexes names 
             (cuts-joined (codes ", ") (Mark Comma) cuts-comma (λ rest. refl) ws (map alone_word ws) (cuts-words ws words)) in
             cuts-always (pv v ++ codes " in {" ++ join_by (λ t. t) (codes ", ") ws ++ codes "}") (Word (pv v) ∷ Word (codes "in") ∷ Mark OpenBrace ∷ listed ++ Mark CloseBrace ∷ [])
             (cuts-always-cuts (pv v ++ codes " in {" ++ join_by (λ t. t) (codes ", ") ws) (codes "}") (Word (pv v) ∷ Word (codes "in") ∷ Mark OpenBrace ∷ listed) (Mark CloseBrace ∷ []) second cuts-close_brace (λ rest. refl));
-        named = of_phrase.fold-OneOf (Outcome Rule) (named_step names) (pv v) ws
+        named = of_phrase.fold-OneOf (Parsed Rule) (named_step names) (pv v) ws
             ∙ ap (λ o. o >>= λ x. values_at names x ws >>= λ these. Ok (rule.OneOf x these)) (printed.variable-own names variables holds are v in_file)
             ∙ ap (λ o. o >>= λ these. Ok (rule.OneOf v these)) (printed.values-own names variables holds are v values two.1);
         faultless = λ fault. of_phrase.fold-OneOf Bool (fault_step (test_of fault)) (pv v) ws;
@@ -282,7 +282,7 @@ module _ (names : Catalogue) (variables : List Variable) (holds : Indexes names 
         said = phrase.Not inner.said;
         spells = grammar.not le inner.spells;
         cut = always-cuts (codes "not ") (printed_in_place 4 variables r) (Word (codes "not") ∷ []) inner.tokens cuts-not inner.cut;
-        named = of_phrase.fold-Not (Outcome Rule) (named_step names) inner.said ∙ ap (λ o. o >>= λ x. Ok (rule.Not x)) inner.named;
+        named = of_phrase.fold-Not (Parsed Rule) (named_step names) inner.said ∙ ap (λ o. o >>= λ x. Ok (rule.Not x)) inner.named;
         faultless = λ fault. of_phrase.fold-Not Bool (fault_step (test_of fault)) inner.said ∙ inner.faultless fault;
         shallow = λ limit o c room. flat-token limit (Word (codes "not")) inner.tokens o c refl (omega arith) (inner.shallow limit o c room);
       })
@@ -338,7 +338,7 @@ module _ (names : Catalogue) (variables : List Variable) (holds : Indexes names 
         spells = grammar.implies le first.spells second.spells;
         cut = subst (λ (us : List Token). Cuts (p ++ codes " => " ++ q) us) (append_assoc first.tokens (Mark Arrow ∷ []) second.tokens)
             (always-cuts (p ++ codes " => ") q (first.tokens ++ Mark Arrow ∷ []) second.tokens (cuts-always-cuts p (codes " => ") first.tokens (Mark Arrow ∷ []) first.cut cuts-arrow (λ rest. refl)) second.cut);
-        named = of_phrase.fold-Implies (Outcome Rule) (named_step names) first.said second.said
+        named = of_phrase.fold-Implies (Parsed Rule) (named_step names) first.said second.said
             ∙ ap (λ o. o >>= λ x. rule_named names second.said >>= λ y. Ok (rule.Implies x y)) first.named ∙ ap (λ o. o >>= λ y. Ok (rule.Implies r y)) second.named;
         faultless = λ fault. of_phrase.fold-Implies Bool (fault_step (test_of fault)) first.said second.said
             ∙ or_from (has_fault fault first.said) (has_fault fault second.said) (first.faultless fault) (second.faultless fault);
@@ -453,7 +453,7 @@ module _ (names : Catalogue) (variables : List Variable) (holds : Indexes names 
             subst (λ (us : List Token). Cuts (codes "table (" ++ vtext ++ codes ") {" ++ rtext ++ codes "}") us)
             (ap (λ (us : List Token). us ++ Mark CloseBrace ∷ []) (append_assoc (Word (codes "table") ∷ Mark Open ∷ vts) (Mark Close ∷ Mark OpenBrace ∷ []) rts))
             (cuts-always (codes "table (" ++ vtext ++ codes ") {" ++ rtext ++ codes "}") (Word (codes "table") ∷ Mark Open ∷ vts ++ Mark Close ∷ Mark OpenBrace ∷ [] ++ rts ++ Mark CloseBrace ∷ []) last);
-        named = of_phrase.fold-Table (Outcome Rule) (named_step names) vs rs
+        named = of_phrase.fold-Table (Parsed Rule) (named_step names) vs rs
             ∙ ap (λ o. o >>= λ x. rows_at names x rs >>= λ found. Ok (rule.Table x found)) (printed.variables-own names variables holds are these b.1)
             ∙ ap (λ o. o >>= λ found. Ok (rule.Table these found)) (printed.rows-own names variables holds are these rows e.1);
         faultless = λ fault. of_phrase.fold-Table Bool (fault_step (test_of fault)) vs rs;

@@ -10,7 +10,7 @@ use Rattle.pc_names.specs.Name.{is_letter, is_name_byte, is_name}
 use Rattle.pc_rules.specs.declared.token.Sign.TheVariants.{Arrow, NotEqual, Equal, Open, Close, OpenBrace, CloseBrace, Comma}
 use Rattle.pc_rules.specs.declared.token.Token.{Token}
 use Rattle.pc_rules.specs.declared.token.Token.TheVariants.{Mark, Word}
-use Rattle.pc_rules.specs.Outcome.{Outcome, ◌>>=◌}
+use Rattle.pc_rules.specs.Parsed.{Parsed, ◌>>=◌}
 use Rattle.pc_rules.specs.Token.{sign_at, first_token, tokens_after}
 use Rattle.pc_rules.specs.Counts.{spellings}
 use Rattle.pc_rules.specs.Grammar.{parted, alone_word}
@@ -18,7 +18,7 @@ use Rattle.pc_rules.proofs.CountLemmas.{small_passes}
 use Rattle.pc_rules.proofs.TokenLemmas.{tokens_after-first}
 
 -- the tokens before what comes after them
-abbrev pub behind : List Token → Outcome (List Token) → Outcome (List Token)
+abbrev pub behind : List Token → Parsed (List Token) → Parsed (List Token)
 behind tokens later = later >>= λ more. Ok (tokens ++ more)
 
 -- a word goes on at the front of these bytes
@@ -38,11 +38,11 @@ Cuts text tokens = (rest : List ℕ) → goes_on rest ≡ false → tokens_after
 abbrev pub Ends : List ℕ → Type 0
 Ends text = (rest : List ℕ) → goes_on (text ++ rest) ≡ false
 
-behind-none : (later : Outcome (List Token)) → later ≡ behind [] later
+behind-none : (later : Parsed (List Token)) → later ≡ behind [] later
 behind-none (Ok tokens) = refl
 behind-none (Err kind) = refl
 
-behind-append : (first second : List Token) (later : Outcome (List Token)) → behind first (behind second later) ≡ behind (first ++ second) later
+behind-append : (first second : List Token) (later : Parsed (List Token)) → behind first (behind second later) ≡ behind (first ++ second) later
 behind-append first second (Ok tokens) = ap Ok (sym (append_assoc first second tokens))
 behind-append first second (Err kind) = refl
 

@@ -10,7 +10,7 @@ use Rattle.pc_rules.specs.declared.phrase.Phrase.TheVariants as phrase
 use Rattle.pc_rules.specs.declared.token.Sign.TheVariants.{Arrow, NotEqual, Equal, Open, Close, OpenBrace, CloseBrace, Comma}
 use Rattle.pc_rules.specs.declared.token.Token.{Token}
 use Rattle.pc_rules.specs.declared.token.Token.TheVariants.{Mark, Word}
-use Rattle.pc_rules.specs.Outcome.{Outcome}
+use Rattle.pc_rules.specs.Parsed.{Parsed}
 use Rattle.pc_rules.specs.Token.{one_if_open, one_if_closed, is_deep_after, is_too_deep}
 use Rattle.pc_base.specs.Reader.{and_then, ◌>>=◌, ◌>>◌, pure}
 use Rattle.pc_rules.specs.Words.{TokenReader, refused, same_sign, sees, sees_word, past, eat, eat_word, expect, word, variable, several_from, several, listed, row}
@@ -409,7 +409,7 @@ module _ (limit : ℕ) where
         let two = split limit text texts between apart apart_too o c (balanced s) flat in
         also (record { some = filled s; gives = λ rest ends. complete s depth o c sum two.0 rest ends }) (complete_each each joint between apart apart_too depth o c sum two.1)
 
-only-all : (outcome : Outcome (Phrase × List Token)) (p : Phrase) → outcome ≡ Ok (p, []) → only outcome ≡ Ok p
+only-all : (outcome : Parsed (Phrase × List Token)) (p : Phrase) → outcome ≡ Ok (p, []) → only outcome ≡ Ok p
 only-all outcome p e = ap only e
 
 -- what is in the grammar is read

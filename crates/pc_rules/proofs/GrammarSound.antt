@@ -9,7 +9,7 @@ use Rattle.pc_rules.specs.declared.phrase.Phrase.TheVariants as phrase
 use Rattle.pc_rules.specs.declared.token.Sign.TheVariants.{Arrow, NotEqual, Equal, Open, Close, OpenBrace, CloseBrace, Comma}
 use Rattle.pc_rules.specs.declared.token.Token.{Token}
 use Rattle.pc_rules.specs.declared.token.Token.TheVariants.{Mark, Word}
-use Rattle.pc_rules.specs.Outcome.{Outcome}
+use Rattle.pc_rules.specs.Parsed.{Parsed}
 use Rattle.pc_base.specs.Reader.{◌>>=◌, ◌>>◌, pure}
 use Rattle.pc_rules.specs.Words.{TokenReader, refused, eat, eat_word, expect, word, variable, several, listed, row}
 use Rattle.pc_rules.specs.Reading.{one_of, comparison, same, are_as_long, table, chained, joined, parenthesized, at_most, named, atom, negation, member, implication, rule_at, only, phrase_of}
@@ -22,7 +22,7 @@ abbrev pub Front : ℕ → List Token → Phrase → List Token → Type 0
 Front place ts p rest = (text : List Token) × (ts ≡ text ++ rest) × SpellsPhrase place p text
 
 -- a phrase and a rest that were answered
-again : (place : ℕ) (ts : List Token) (p q : Phrase) (left rest : List Token) → ◌≡◌ {A = Outcome (Phrase × List Token)} (Ok (p, left)) (Ok (q, rest)) → Front place ts p left → Front place ts q rest
+again : (place : ℕ) (ts : List Token) (p q : Phrase) (left rest : List Token) → ◌≡◌ {A = Parsed (Phrase × List Token)} (Ok (p, left)) (Ok (q, rest)) → Front place ts p left → Front place ts q rest
 again place ts p q left rest e f =
     let parts = the_pair p q left rest e in
     (f.0, f.1 ∙ ap (λ r. f.0 ++ r) parts.1, subst (λ r. SpellsPhrase place r f.0) parts.0 f.2)
@@ -299,7 +299,7 @@ module _ (rule : TokenReader Phrase) (rule-took : Took 0 rule) where
       let premise = or_chain-took ts a.0 a.1 a.2 in
       by a.0 a.1 premise (eat_or Arrow (conclude a.0) (pure a.0) a.1 p rest a.3)
     where
-      by : (q : Phrase) (left : List Token) → Front 1 ts q left → ((after : List Token) × (left ≡ Mark Arrow ∷ after) × (conclude q after ≡ Ok (p, rest))) ⊎ (◌≡◌ {A = Outcome (Phrase × List Token)} (Ok (q, left)) (Ok (p, rest))) → Front 0 ts p rest
+      by : (q : Phrase) (left : List Token) → Front 1 ts q left → ((after : List Token) × (left ≡ Mark Arrow ∷ after) × (conclude q after ≡ Ok (p, rest))) ⊎ (◌≡◌ {A = Parsed (Phrase × List Token)} (Ok (q, left)) (Ok (p, rest))) → Front 0 ts p rest
       by q left premise (inl s) =
           let b = then_ok (or_chain s.0) (λ conclusion. pure (phrase.Implies q conclusion)) p rest s.2 in
           let conclusion = or_chain-took s.0 b.0 b.1 b.2 in
@@ -315,10 +315,10 @@ unfolding rule_at
 rule_at-took zero ts p rest e = never ts p rest e
 rule_at-took (suc depth) ts p rest e = implication-took (rule_at depth) (rule_at-took depth) ts p rest e
 
-only-took : (outcome : Outcome (Phrase × List Token)) (p : Phrase) → only outcome ≡ Ok p → outcome ≡ Ok (p, [])
+only-took : (outcome : Parsed (Phrase × List Token)) (p : Phrase) → only outcome ≡ Ok p → outcome ≡ Ok (p, [])
 only-took (Ok (q, [])) p e = let same : q ≡ p = the_value q p e in ap one same
   where
-    one : Phrase → Outcome (Phrase × List Token)
+    one : Phrase → Parsed (Phrase × List Token)
     one r = Ok (r, [])
 only-took (Ok (q, token ∷ tokens)) p e = absurd cc
 only-took (Err kind) p e = absurd cc

@@ -4,7 +4,7 @@ pub mod GrammarComplete
 pub mod GrammarSound
 pub mod Levels
 pub mod ListPlaces
-pub mod OutcomeLemmas
+pub mod ParsedLemmas
 pub mod PhraseFolds
 pub mod PhraseLemmas
 pub mod Positions

@@ -10,7 +10,7 @@ use Rattle.pc_file.proofs.RuleLemmas.{list_any-map}
 use Rattle.pc_rules.specs.declared.checks.AtMostFault.{AtMostFault}
 use Rattle.pc_rules.specs.declared.phrase.Phrase.{Phrase, Phrase-F, fold-roll-Phrase}
 use Rattle.pc_rules.specs.declared.phrase.Phrase.TheVariants.{And, Or, AtMost, rolls-And, rolls-Or, rolls-AtMost}
-use Rattle.pc_rules.specs.Outcome.{Outcome, ◌>>=◌}
+use Rattle.pc_rules.specs.Parsed.{Parsed, ◌>>=◌}
 use Rattle.pc_rules.specs.Counts.{count_of}
 use Rattle.pc_rules.specs.RuleFaults.{fault_step, test_of, has_fault, repeat_step, has_repeat}
 use Rattle.pc_rules.specs.Naming.{all_ok, named_step, rule_named}
@@ -44,11 +44,11 @@ has_repeat-AtMost most members =
 
 module _ (names : Catalogue) where
   pub rule_named-And : (members : List Phrase) → rule_named names (And members) ≡ (all_ok (map (rule_named names) members) >>= λ rules. Ok (rule.And rules))
-  rule_named-And members = ap (rule_named names) (sym (rolls-And members)) ∙ fold-roll-Phrase (Outcome Rule) (named_step names) (Phrase-F.And members)
+  rule_named-And members = ap (rule_named names) (sym (rolls-And members)) ∙ fold-roll-Phrase (Parsed Rule) (named_step names) (Phrase-F.And members)
 
   pub rule_named-Or : (members : List Phrase) → rule_named names (Or members) ≡ (all_ok (map (rule_named names) members) >>= λ rules. Ok (rule.Or rules))
-  rule_named-Or members = ap (rule_named names) (sym (rolls-Or members)) ∙ fold-roll-Phrase (Outcome Rule) (named_step names) (Phrase-F.Or members)
+  rule_named-Or members = ap (rule_named names) (sym (rolls-Or members)) ∙ fold-roll-Phrase (Parsed Rule) (named_step names) (Phrase-F.Or members)
 
   pub rule_named-AtMost : (most : List ℕ) (members : List Phrase) →
       rule_named names (AtMost most members) ≡ (all_ok (map (rule_named names) members) >>= λ rules. Ok (rule.AtMost (unwrap_or (count_of most) 0) rules))
-  rule_named-AtMost most members = ap (rule_named names) (sym (rolls-AtMost most members)) ∙ fold-roll-Phrase (Outcome Rule) (named_step names) (Phrase-F.AtMost most members)
+  rule_named-AtMost most members = ap (rule_named names) (sym (rolls-AtMost most members)) ∙ fold-roll-Phrase (Parsed Rule) (named_step names) (Phrase-F.AtMost most members)

@@ -16,18 +16,18 @@ use Rattle.pc_file.specs.Names.{value_name}
 use Rattle.pc_file.specs.Limits.{has_variable, has_value, is_row}
 use Rattle.pc_rules.specs.declared.kind.Kind.{Kind}
 use Rattle.pc_rules.specs.declared.kind.Kind.TheVariants as kind
-use Rattle.pc_rules.specs.Outcome.{Outcome, ◌>>=◌}
+use Rattle.pc_rules.specs.Parsed.{Parsed, ◌>>=◌}
 use Rattle.pc_rules.specs.Naming.{position_or_unknown, variable_at, value_at, all_ok, variables_at, values_at, row_at, rows_at}
 
 -- both steps gave a value
-pub bind_ok : {A B : Type 0} (first : Outcome A) (next : A → Outcome B) (y : B) → (first >>= next) ≡ Ok y → (x : A) × (first ≡ Ok x) × (next x ≡ Ok y)
+pub bind_ok : {A B : Type 0} (first : Parsed A) (next : A → Parsed B) (y : B) → (first >>= next) ≡ Ok y → (x : A) × (first ≡ Ok x) × (next x ≡ Ok y)
 bind_ok (Ok x) next y e = (x, refl, e)
 bind_ok (Err fault) next y e = absurd cc
 
-pub the_ok : {A : Type 0} (x y : A) → ◌≡◌ {A = Outcome A} (Ok x) (Ok y) → x ≡ y
+pub the_ok : {A : Type 0} (x y : A) → ◌≡◌ {A = Parsed A} (Ok x) (Ok y) → x ≡ y
 the_ok x y e = cc
 
-pub cond_ok : {A : Type 0} (b : Bool) (outcome : Outcome A) (fault : Kind) (y : A) → cond b outcome (Err fault) ≡ Ok y → (b ≡ true) × (outcome ≡ Ok y)
+pub cond_ok : {A : Type 0} (b : Bool) (outcome : Parsed A) (fault : Kind) (y : A) → cond b outcome (Err fault) ≡ Ok y → (b ≡ true) × (outcome ≡ Ok y)
 cond_ok true outcome fault y e = (refl, e)
 cond_ok false outcome fault y e = absurd cc
 
@@ -45,7 +45,7 @@ there f (x ∷ xs) zero below = refl
 there f (x ∷ xs) (suc n) below = there f xs n (omega arith)
 
 -- what each outcome of a list is like
-pub all_ok-each : {X Y : Type 0} (f : X → Outcome Y) (test : Y → Bool) → ((x : X) (y : Y) → f x ≡ Ok y → test y ≡ true) → (xs : List X) (ys : List Y) → all_ok (map f xs) ≡ Ok ys →
+pub all_ok-each : {X Y : Type 0} (f : X → Parsed Y) (test : Y → Bool) → ((x : X) (y : Y) → f x ≡ Ok y → test y ≡ true) → (xs : List X) (ys : List Y) → all_ok (map f xs) ≡ Ok ys →
     (list_all test ys ≡ true) × (length ys ≡ length xs)
 all_ok-each f test each [] ys e = let none = the_ok [] ys e in (ap (list_all test) (sym none), ap length (sym none))
 all_ok-each f test each (x ∷ xs) ys e =

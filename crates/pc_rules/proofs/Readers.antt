@@ -11,23 +11,23 @@ use Rattle.pc_rules.specs.declared.token.Sign.{Sign}
 use Rattle.pc_rules.specs.declared.token.Sign.TheVariants.{Comma}
 use Rattle.pc_rules.specs.declared.token.Token.{Token}
 use Rattle.pc_rules.specs.declared.token.Token.TheVariants.{Mark, Word}
-use Rattle.pc_rules.specs.Outcome.{Outcome}
+use Rattle.pc_rules.specs.Parsed.{Parsed}
 use Rattle.pc_base.specs.Reader.{and_then, ◌>>=◌, ◌>>◌, pure}
 use Rattle.pc_rules.specs.Words.{TokenReader, refused, same_sign, sees, sees_word, past, eat, eat_word, expect, word, variable, several_from, several, listed, words_at, some, row}
 use Rattle.pc_rules.specs.Grammar.{parted, alone_word, IsFree, AreFree, AreRows}
 
-pub the_value : {A : Type 0} (x y : A) → ◌≡◌ {A = Outcome A} (Ok x) (Ok y) → x ≡ y
+pub the_value : {A : Type 0} (x y : A) → ◌≡◌ {A = Parsed A} (Ok x) (Ok y) → x ≡ y
 the_value x y e = cc
 
 -- what a value and the tokens after it are
-pub the_pair : {A : Type 0} (x y : A) (ts us : List Token) → ◌≡◌ {A = Outcome (A × List Token)} (Ok (x, ts)) (Ok (y, us)) → (x ≡ y) × (ts ≡ us)
+pub the_pair : {A : Type 0} (x y : A) (ts us : List Token) → ◌≡◌ {A = Parsed (A × List Token)} (Ok (x, ts)) (Ok (y, us)) → (x ≡ y) × (ts ≡ us)
 the_pair x y ts us e = let same : (x, ts) ≡ (y, us) = the_value (x, ts) (y, us) e in (ap (λ p. p.0) same, ap (λ p. p.1) same)
 
-no_value : {A : Type 0} (kind : Kind) (x : A) → ◌≡◌ {A = Outcome A} (Err kind) (Ok x) → ⊥
+no_value : {A : Type 0} (kind : Kind) (x : A) → ◌≡◌ {A = Parsed A} (Err kind) (Ok x) → ⊥
 no_value kind x e = cc
 
 -- the value of two steps comes by one of the first
-pub then_ok : {A B : Type 0} (first : Outcome (A × List Token)) (next : A → TokenReader B) (y : B) (rest : List Token) → and_then first next ≡ Ok (y, rest) →
+pub then_ok : {A B : Type 0} (first : Parsed (A × List Token)) (next : A → TokenReader B) (y : B) (rest : List Token) → and_then first next ≡ Ok (y, rest) →
     (x : A) × (left : List Token) × (first ≡ Ok (x, left)) × (next x left ≡ Ok (y, rest))
 then_ok (Ok found) next y rest e = (found.0, found.1, refl, e)
 then_ok (Err kind) next y rest e = absurd (no_value kind (y, rest) e)

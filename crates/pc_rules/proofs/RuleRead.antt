@@ -11,7 +11,7 @@ use Rattle.pc_rules.specs.declared.kind.Kind.TheVariants as kind
 use Rattle.pc_rules.specs.declared.phrase.Phrase.{Phrase}
 use Rattle.pc_rules.specs.declared.token.Token.{Token}
 use Rattle.pc_rules.specs.declared.fault.RuleFault.{RuleFault}
-use Rattle.pc_rules.specs.Outcome.{Outcome, ◌>>=◌, ◌>>◌, unless, Gives}
+use Rattle.pc_rules.specs.Parsed.{Parsed, ◌>>=◌, ◌>>◌, unless, Gives}
 use Rattle.pc_rules.specs.Token.{tokens_of, is_too_deep}
 use Rattle.pc_rules.specs.Reading.{phrase_of}
 use Rattle.pc_rules.specs.RuleFaults.{has_fault, has_repeat}
@@ -24,30 +24,30 @@ use Rattle.pc_rules.proofs.GrammarComplete.{phrase_of-complete}
 use Rattle.pc_rules.proofs.Spelled.{spelled}
 use Rattle.pc_rules.proofs.Shallow.{shallow_rule}
 
-unless_ok : {A : Type 0} (fault : Bool) (kind : Kind) (next : Outcome A) (y : A) → (unless fault kind >> next) ≡ Ok y → (fault ≡ false) × (next ≡ Ok y)
+unless_ok : {A : Type 0} (fault : Bool) (kind : Kind) (next : Parsed A) (y : A) → (unless fault kind >> next) ≡ Ok y → (fault ≡ false) × (next ≡ Ok y)
 unless_ok true kind next y e = absurd cc
 unless_ok false kind next y e = (refl, e)
 
-unless_none : {A : Type 0} (fault : Bool) (kind : Kind) (next : Outcome A) → fault ≡ false → (unless fault kind >> next) ≡ next
+unless_none : {A : Type 0} (fault : Bool) (kind : Kind) (next : Parsed A) → fault ≡ false → (unless fault kind >> next) ≡ next
 unless_none fault kind next none = ap (λ b. unless b kind >> next) none
 
 module _ (names : Catalogue) (text : List ℕ) (rule : Rule) where
-  abbrev last : Rule → Outcome Rule
+  abbrev last : Rule → Parsed Rule
   last found = unless (has_repeat found) kind.Repeat >> Ok found
 
-  abbrev naming : Phrase → Outcome Rule
+  abbrev naming : Phrase → Parsed Rule
   naming phrase = rule_named names phrase >>= last
 
-  abbrev lengths : Phrase → Outcome Rule
+  abbrev lengths : Phrase → Parsed Rule
   lengths phrase = unless (has_fault Length phrase) kind.Size >> naming phrase
 
-  abbrev numbers : Phrase → Outcome Rule
+  abbrev numbers : Phrase → Parsed Rule
   numbers phrase = unless (has_fault Number phrase) kind.Number >> lengths phrase
 
-  abbrev reading : List Token → Outcome Rule
+  abbrev reading : List Token → Parsed Rule
   reading tokens = phrase_of tokens >>= numbers
 
-  abbrev depth : List Token → Outcome Rule
+  abbrev depth : List Token → Parsed Rule
   depth tokens = unless (is_too_deep tokens) kind.Depth >> reading tokens
 
   pub rule_of-read : rule_of names text ≡ Ok rule → IsRuleText names text rule
@@ -89,6 +89,6 @@ module _ (names : Catalogue) (text : List ℕ) (rule : Rule) where
       and_from (is_spelled variables rule) (is_shallow rule) (spelled names variables holds is.spelled rule is.named is.numbers is.lengths is.once) (shallow_rule names is.spelled is.shallow rule is.named)
 
 -- a value that a function gave is that of the reading
-pub if_read : (answer : Result Rule RuleFault) (outcome : Outcome Rule) (P : Rule → Type 0) → Gives (λ rule. rule) answer outcome → ((rule : Rule) → outcome ≡ Ok rule → P rule) → IfOk answer P
+pub if_read : (answer : Result Rule RuleFault) (outcome : Parsed Rule) (P : Rule → Type 0) → Gives (λ rule. rule) answer outcome → ((rule : Rule) → outcome ≡ Ok rule → P rule) → IfOk answer P
 if_read (Ok rule) outcome P gives told = told rule gives
 if_read (Err fault) outcome P gives told = tt

@@ -14,7 +14,7 @@ use Rattle.pc_rules.specs.declared.phrase.Phrase.TheVariants as phrase
 use Rattle.pc_rules.specs.declared.token.Sign.TheVariants.{Arrow, Open, Close, OpenBrace, CloseBrace, Comma}
 use Rattle.pc_rules.specs.declared.token.Token.{Token}
 use Rattle.pc_rules.specs.declared.token.Token.TheVariants.{Mark, Word}
-use Rattle.pc_rules.specs.Outcome.{Outcome, ◌>>=◌}
+use Rattle.pc_rules.specs.Parsed.{Parsed, ◌>>=◌}
 use Rattle.pc_rules.specs.Counts.{count_of}
 use Rattle.pc_rules.specs.Token.{one_if_open, one_if_closed, is_deep_after, is_too_deep}
 use Rattle.pc_rules.specs.Naming.{variable_at, value_at, variables_at, values_at, rows_at, all_ok, named_step, rule_named}
@@ -83,31 +83,31 @@ module _ (limit : ℕ) where
 
     nesting_Is : (v a : List ℕ) (r : Rule) → rule_named names (phrase.Is v a) ≡ Ok r → nesting r ≡ record { strength = 4; open_at_most = 0 }
     nesting_Is v a r e =
-        let s = bind_ok (variable_at names v) (λ variable. value_at names variable a >>= λ value. Ok (rule.Is variable value)) r (sym (of_phrase.fold-Is (Outcome Rule) (named_step names) v a) ∙ e) in
+        let s = bind_ok (variable_at names v) (λ variable. value_at names variable a >>= λ value. Ok (rule.Is variable value)) r (sym (of_phrase.fold-Is (Parsed Rule) (named_step names) v a) ∙ e) in
         let t = bind_ok (value_at names s.0 a) (λ value. Ok (rule.Is s.0 value)) r s.2 in
         ap nesting (sym (the_ok (rule.Is s.0 t.0) r t.2)) ∙ of_rule.fold-Is Nesting nesting_step s.0 t.0
 
     nesting_IsNot : (v a : List ℕ) (r : Rule) → rule_named names (phrase.IsNot v a) ≡ Ok r → nesting r ≡ record { strength = 4; open_at_most = 0 }
     nesting_IsNot v a r e =
-        let s = bind_ok (variable_at names v) (λ variable. value_at names variable a >>= λ value. Ok (rule.IsNot variable value)) r (sym (of_phrase.fold-IsNot (Outcome Rule) (named_step names) v a) ∙ e) in
+        let s = bind_ok (variable_at names v) (λ variable. value_at names variable a >>= λ value. Ok (rule.IsNot variable value)) r (sym (of_phrase.fold-IsNot (Parsed Rule) (named_step names) v a) ∙ e) in
         let t = bind_ok (value_at names s.0 a) (λ value. Ok (rule.IsNot s.0 value)) r s.2 in
         ap nesting (sym (the_ok (rule.IsNot s.0 t.0) r t.2)) ∙ of_rule.fold-IsNot Nesting nesting_step s.0 t.0
 
     nesting_OneOf : (v : List ℕ) (values : List (List ℕ)) (r : Rule) → rule_named names (phrase.OneOf v values) ≡ Ok r → nesting r ≡ record { strength = 4; open_at_most = 0 }
     nesting_OneOf v values r e =
-        let s = bind_ok (variable_at names v) (λ variable. values_at names variable values >>= λ these. Ok (rule.OneOf variable these)) r (sym (of_phrase.fold-OneOf (Outcome Rule) (named_step names) v values) ∙ e) in
+        let s = bind_ok (variable_at names v) (λ variable. values_at names variable values >>= λ these. Ok (rule.OneOf variable these)) r (sym (of_phrase.fold-OneOf (Parsed Rule) (named_step names) v values) ∙ e) in
         let t = bind_ok (values_at names s.0 values) (λ these. Ok (rule.OneOf s.0 these)) r s.2 in
         ap nesting (sym (the_ok (rule.OneOf s.0 t.0) r t.2)) ∙ of_rule.fold-OneOf Nesting nesting_step s.0 t.0
 
     nesting_Same : (v w : List ℕ) (r : Rule) → rule_named names (phrase.Same v w) ≡ Ok r → nesting r ≡ record { strength = 4; open_at_most = 1 }
     nesting_Same v w r e =
-        let s = bind_ok (variable_at names v) (λ first. variable_at names w >>= λ second. Ok (rule.Same first second)) r (sym (of_phrase.fold-Same (Outcome Rule) (named_step names) v w) ∙ e) in
+        let s = bind_ok (variable_at names v) (λ first. variable_at names w >>= λ second. Ok (rule.Same first second)) r (sym (of_phrase.fold-Same (Parsed Rule) (named_step names) v w) ∙ e) in
         let t = bind_ok (variable_at names w) (λ second. Ok (rule.Same s.0 second)) r s.2 in
         ap nesting (sym (the_ok (rule.Same s.0 t.0) r t.2)) ∙ of_rule.fold-Same Nesting nesting_step s.0 t.0
 
     nesting_Table : (vs : List (List ℕ)) (rows : List (List (List ℕ))) (r : Rule) → rule_named names (phrase.Table vs rows) ≡ Ok r → nesting r ≡ record { strength = 4; open_at_most = 1 }
     nesting_Table vs rows r e =
-        let s = bind_ok (variables_at names vs) (λ these. rows_at names these rows >>= λ found. Ok (rule.Table these found)) r (sym (of_phrase.fold-Table (Outcome Rule) (named_step names) vs rows) ∙ e) in
+        let s = bind_ok (variables_at names vs) (λ these. rows_at names these rows >>= λ found. Ok (rule.Table these found)) r (sym (of_phrase.fold-Table (Parsed Rule) (named_step names) vs rows) ∙ e) in
         let t = bind_ok (rows_at names s.0 rows) (λ found. Ok (rule.Table s.0 found)) r s.2 in
         ap nesting (sym (the_ok (rule.Table s.0 t.0) r t.2)) ∙ of_rule.fold-Table Nesting nesting_step s.0 t.0
 
@@ -137,12 +137,12 @@ module _ (limit : ℕ) where
           let room = opened rest o c (past_token (Word (codes "table")) (Mark Open ∷ rest) o c refl refl flat) in
           round_rule place most r low (omega (arith, sum, room.0)) (nesting_Table vs rows r e)
       shallow (grammar.not {place = place} {rule = p} {text = text} at s) low most o c sum flat r e =
-          let b = bind_ok (rule_named names p) (λ inner. Ok (rule.Not inner)) r (sym (of_phrase.fold-Not (Outcome Rule) (named_step names) p) ∙ e) in
+          let b = bind_ok (rule_named names p) (λ inner. Ok (rule.Not inner)) r (sym (of_phrase.fold-Not (Parsed Rule) (named_step names) p) ∙ e) in
           let few = shallow s (omega arith) most o c sum (past_token (Word (codes "not")) text o c refl refl flat) b.0 b.1 in
           let is = ap nesting (sym (the_ok (rule.Not b.0) r b.2)) ∙ of_rule.fold-Not Nesting nesting_step b.0 in
           subst (λ n. open_in_place place n ≤ most) (sym is) (enough place 3 (open_in_place 4 (nesting b.0)) most at few)
       shallow (grammar.implies {place = place} {premise = p} {conclusion = q} {text = text} {next = next} at s t) low most o c sum flat r e =
-          let b = bind_ok (rule_named names p) (λ premise. rule_named names q >>= λ conclusion. Ok (rule.Implies premise conclusion)) r (sym (of_phrase.fold-Implies (Outcome Rule) (named_step names) p q) ∙ e) in
+          let b = bind_ok (rule_named names p) (λ premise. rule_named names q >>= λ conclusion. Ok (rule.Implies premise conclusion)) r (sym (of_phrase.fold-Implies (Parsed Rule) (named_step names) p q) ∙ e) in
           let d = bind_ok (rule_named names q) (λ conclusion. Ok (rule.Implies b.0 conclusion)) r b.2 in
           let two = parts text (Mark Arrow ∷ next) o c (balanced s) flat in
           let first = shallow s (omega arith) most o c sum two.0 b.0 b.1 in

@@ -15,7 +15,7 @@ use Rattle.pc_rules.specs.declared.checks.AtMostFault.TheVariants.{Number, Lengt
 use Rattle.pc_rules.specs.declared.phrase.Phrase.{Phrase}
 use Rattle.pc_rules.specs.declared.phrase.Phrase.TheVariants as phrase
 use Rattle.pc_rules.specs.declared.token.Token.{Token}
-use Rattle.pc_rules.specs.Outcome.{Outcome, ◌>>=◌}
+use Rattle.pc_rules.specs.Parsed.{Parsed, ◌>>=◌}
 use Rattle.pc_rules.specs.Counts.{count_of}
 use Rattle.pc_rules.specs.Reading.{are_as_long}
 use Rattle.pc_rules.specs.RuleFaults.{fault_step, test_of, has_fault, repeat_step, has_repeat}
@@ -36,7 +36,7 @@ a_count (Some n) e = refl
 
 module _ (names : Catalogue) (variables : List Variable) (holds : Indexes names variables) where
   abbrev outcome : Type 0
-  outcome = Outcome Rule
+  outcome = Parsed Rule
 
   spelled-Is : (v a : List ℕ) (r : Rule) → rule_named names (phrase.Is v a) ≡ Ok r → is_spelled variables r ≡ true
   spelled-Is v a r e =

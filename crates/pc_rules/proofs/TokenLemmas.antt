@@ -1,7 +1,7 @@
 -- How a text is cut into tokens, one at a time.
 use Rattle.std.proofs.Common.{◌≡◌, ℕ, zero, suc, ◌-◌, ◌<◌, ◌==◌, false, cond, List, [], ◌∷◌, ◌++◌, length, drop, Some, Ok, Err, refl, sym, ap, ◌∙◌, append_assoc, arith}
 use Rattle.pc_rules.specs.declared.token.Token.{Token}
-use Rattle.pc_rules.specs.Outcome.{Outcome, ◌>>=◌}
+use Rattle.pc_rules.specs.Parsed.{Parsed, ◌>>=◌}
 use Rattle.pc_rules.specs.Token.{token_text, first_token, with_token, tokens_after}
 
 -- what belongs to the token before is passed over
@@ -10,7 +10,7 @@ tokens_after-drop zero bytes = refl
 tokens_after-drop (suc skip) [] = refl
 tokens_after-drop (suc skip) (byte ∷ bytes) = tokens_after-drop skip bytes
 
-regroup : (token : Token) (front : List Token) (outcome : Outcome (List Token)) →
+regroup : (token : Token) (front : List Token) (outcome : Parsed (List Token)) →
     ((outcome >>= λ tokens. Ok (token ∷ tokens)) >>= λ more. Ok (front ++ more)) ≡ (outcome >>= λ more. Ok ((front ++ token ∷ []) ++ more))
 regroup token front (Ok tokens) = ap Ok (sym (append_assoc front (token ∷ []) tokens))
 regroup token front (Err kind) = refl
@@ -19,7 +19,7 @@ regroup token front (Err kind) = refl
 pub tokens_after-first : (byte : ℕ) (bytes : List ℕ) (token : Token) → byte == 32 ≡ false → first_token (byte ∷ bytes) ≡ Some token → 0 < length (token_text token) →
     tokens_after 0 (byte ∷ bytes) ≡ (tokens_after 0 (drop (length (token_text token)) (byte ∷ bytes)) >>= λ tokens. Ok (token ∷ tokens))
 tokens_after-first byte bytes token apart first some =
-    let after : ℕ → Outcome (List Token) = λ width. tokens_after (width - 1) bytes in
+    let after : ℕ → Parsed (List Token) = λ width. tokens_after (width - 1) bytes in
     let width : ℕ = length (token_text token) in
     let one_more : width ≡ suc (width - 1) = omega arith in
     ap (λ b. cond b (tokens_after 0 bytes) (with_token (first_token (byte ∷ bytes)) after)) apart

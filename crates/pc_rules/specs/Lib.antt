@@ -2,7 +2,7 @@ pub mod Counts
 pub mod Grammar
 pub mod KindWord
 pub mod Naming
-pub mod Outcome
+pub mod Parsed
 pub mod Reading
 pub mod RuleFaults
 pub mod RuleText

@@ -13,41 +13,41 @@ use Rattle.pc_rules.specs.declared.phrase.Phrase.{Phrase}
 use Rattle.pc_rules.specs.declared.phrase.Phrase.TheOpen.{Phrase-F, Is, IsNot, OneOf, Not, And, Or, Implies, Same, AtMost, Table}
 use Rattle.pc_rules.specs.declared.phrase.Phrase.TheFolds.{fold-Phrase}
 use Rattle.pc_rules.specs.Counts.{count_of}
-use Rattle.pc_rules.specs.Outcome.{Outcome, ◌>>=◌}
+use Rattle.pc_rules.specs.Parsed.{Parsed, ◌>>=◌}
 
 -- a position is a number of 32 bits
-abbrev pub position_or_unknown : Option ℕ → Outcome ℕ
+abbrev pub position_or_unknown : Option ℕ → Parsed ℕ
 position_or_unknown None = Err kind.Unknown
 position_or_unknown (Some position) = if nat_lt position (2 ^ 32) then Ok position else Err kind.Unknown
 
 -- where the variable stands that a word names
-unfoldable pub variable_at : Catalogue → List ℕ → Outcome ℕ
+unfoldable pub variable_at : Catalogue → List ℕ → Parsed ℕ
 variable_at names word = if is_name word then position_or_unknown (variable_position names word) else Err kind.Unknown
 
 -- where the value of a variable stands that a word names
-unfoldable pub value_at : Catalogue → ℕ → List ℕ → Outcome ℕ
+unfoldable pub value_at : Catalogue → ℕ → List ℕ → Parsed ℕ
 value_at names variable word = if is_name word then position_or_unknown (value_position names variable word) else Err kind.Unknown
 
 -- all the values, or the first fault
-abbrev pub all_ok : {A : Type 0} → List (Outcome A) → Outcome (List A)
+abbrev pub all_ok : {A : Type 0} → List (Parsed A) → Parsed (List A)
 all_ok [] = Ok []
 all_ok (first ∷ more) = first >>= λ x. all_ok more >>= λ xs. Ok (x ∷ xs)
 
-unfoldable pub variables_at : Catalogue → List (List ℕ) → Outcome (List ℕ)
+unfoldable pub variables_at : Catalogue → List (List ℕ) → Parsed (List ℕ)
 variables_at names words = all_ok (map (variable_at names) words)
 
-unfoldable pub values_at : Catalogue → ℕ → List (List ℕ) → Outcome (List ℕ)
+unfoldable pub values_at : Catalogue → ℕ → List (List ℕ) → Parsed (List ℕ)
 values_at names variable words = all_ok (map (value_at names variable) words)
 
 -- a value of each variable
-unfoldable pub row_at : Catalogue → List ℕ → List (List ℕ) → Outcome (List ℕ)
+unfoldable pub row_at : Catalogue → List ℕ → List (List ℕ) → Parsed (List ℕ)
 row_at names variables words = all_ok (map (λ p. value_at names p.0 p.1) (zip variables words))
 
-unfoldable pub rows_at : Catalogue → List ℕ → List (List (List ℕ)) → Outcome (List (List ℕ))
+unfoldable pub rows_at : Catalogue → List ℕ → List (List (List ℕ)) → Parsed (List (List ℕ))
 rows_at names variables rows = all_ok (map (row_at names variables) rows)
 
 -- One layer of a phrase, with the rule in the place of each part.
-abbrev pub named_step : Catalogue → Phrase-F (Outcome Rule) → Outcome Rule
+abbrev pub named_step : Catalogue → Phrase-F (Parsed Rule) → Parsed Rule
 named_step names (Is variable value) = do
   v ← variable_at names variable
   a ← value_at names v value
@@ -77,5 +77,5 @@ named_step names (Table variables rows) = do
   found ← rows_at names these rows
   Ok (rule.Table these found)
 
-abbrev pub rule_named : Catalogue → Phrase → Outcome Rule
-rule_named names = fold-Phrase (Outcome Rule) (named_step names)
+abbrev pub rule_named : Catalogue → Phrase → Parsed Rule
+rule_named names = fold-Phrase (Parsed Rule) (named_step names)

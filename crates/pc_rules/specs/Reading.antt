@@ -11,7 +11,7 @@ use Rattle.pc_rules.specs.declared.phrase.Phrase.{Phrase}
 use Rattle.pc_rules.specs.declared.phrase.Phrase.TheVariants as phrase
 use Rattle.pc_rules.specs.declared.token.Sign.TheVariants.{Arrow, NotEqual, Equal, Open, Close, OpenBrace, CloseBrace, Comma}
 use Rattle.pc_rules.specs.declared.token.Token.{Token}
-use Rattle.pc_rules.specs.Outcome.{Outcome}
+use Rattle.pc_rules.specs.Parsed.{Parsed}
 use Rattle.pc_base.specs.Reader.{◌>>=◌, ◌>>◌, pure}
 use Rattle.pc_rules.specs.Words.{TokenReader, refused, eat, eat_word, expect, word, variable, several, listed, row}
 
@@ -134,13 +134,13 @@ rule_at zero = refused
 rule_at (suc depth) = implication (rule_at depth)
 
 -- all tokens are the phrase
-abbrev pub alone : Phrase → List Token → Outcome Phrase
+abbrev pub alone : Phrase → List Token → Parsed Phrase
 alone found [] = Ok found
 alone found (token ∷ tokens) = Err kind.Rule
 
-abbrev pub only : Outcome (Phrase × List Token) → Outcome Phrase
+abbrev pub only : Parsed (Phrase × List Token) → Parsed Phrase
 only (Ok found) = alone found.0 found.1
 only (Err fault) = Err fault
 
-unfoldable pub phrase_of : List Token → Outcome Phrase
+unfoldable pub phrase_of : List Token → Parsed Phrase
 phrase_of tokens = only (rule_at (MOST_OPEN + 1) tokens)

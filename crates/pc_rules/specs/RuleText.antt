@@ -6,14 +6,14 @@ use Rattle.pc_rules.specs.declared.checks.AtMostFault.TheVariants.{Number, Lengt
 use Rattle.pc_rules.specs.declared.kind.Kind.TheVariants as kind
 use Rattle.pc_rules.specs.declared.phrase.Phrase.{Phrase}
 use Rattle.pc_rules.specs.declared.token.Token.{Token}
-use Rattle.pc_rules.specs.Outcome.{Outcome, ◌>>=◌, ◌>>◌, unless}
+use Rattle.pc_rules.specs.Parsed.{Parsed, ◌>>=◌, ◌>>◌, unless}
 use Rattle.pc_rules.specs.Token.{tokens_of, is_too_deep}
 use Rattle.pc_rules.specs.Reading.{phrase_of}
 use Rattle.pc_rules.specs.Grammar.{SpellsPhrase}
 use Rattle.pc_rules.specs.RuleFaults.{has_fault, has_repeat}
 use Rattle.pc_rules.specs.Naming.{rule_named}
 
-unfoldable pub rule_of : Catalogue → List ℕ → Outcome Rule
+unfoldable pub rule_of : Catalogue → List ℕ → Parsed Rule
 rule_of names text = do
   tokens ← tokens_of text
   unless (is_too_deep tokens) kind.Depth

@@ -8,7 +8,7 @@ use Rattle.pc_rules.specs.declared.token.Sign.{Sign}
 use Rattle.pc_rules.specs.declared.token.Sign.TheVariants.{Arrow, NotEqual, Equal, Open, Close, OpenBrace, CloseBrace, Comma}
 use Rattle.pc_rules.specs.declared.token.Token.{Token}
 use Rattle.pc_rules.specs.declared.token.Token.TheVariants.{Mark, Word}
-use Rattle.pc_rules.specs.Outcome.{Outcome, ◌>>=◌}
+use Rattle.pc_rules.specs.Parsed.{Parsed, ◌>>=◌}
 
 -- the bytes of a sign
 abbrev pub sign_text : Sign → List ℕ
@@ -48,17 +48,17 @@ unfoldable pub first_token : List ℕ → Option Token
 first_token bytes = word_or_sign (take_while is_name_byte bytes) (sign_at (slice_index bytes 0) (slice_index bytes 1))
 
 -- a token, and those after it; no token where the bytes begin with none
-abbrev pub with_token : Option Token → (ℕ → Outcome (List Token)) → Outcome (List Token)
+abbrev pub with_token : Option Token → (ℕ → Parsed (List Token)) → Parsed (List Token)
 with_token None after = Err kind.Rule
 with_token (Some token) after = after (length (token_text token)) >>= λ tokens. Ok (token ∷ tokens)
 
 -- The tokens of the bytes. The number counts the bytes that belong to the token before.
-abbrev pub tokens_after : ℕ → List ℕ → Outcome (List Token)
+abbrev pub tokens_after : ℕ → List ℕ → Parsed (List Token)
 tokens_after skip [] = Ok []
 tokens_after (suc skip) (byte ∷ bytes) = tokens_after skip bytes
 tokens_after zero (byte ∷ bytes) = if byte == 32 then tokens_after 0 bytes else with_token (first_token (byte ∷ bytes)) (λ width. tokens_after (width - 1) bytes)
 
-unfoldable pub tokens_of : List ℕ → Outcome (List Token)
+unfoldable pub tokens_of : List ℕ → Parsed (List Token)
 tokens_of = tokens_after 0
 
 abbrev pub one_if_open : Token → ℕ

@@ -1,7 +1,7 @@
 //! A place among the tokens of a rule.
 
 ghost use Rattle.std.specs.Prelude.{◌≡◌, [], ◌∷◌, length, IsTrue, ◌↔◌, MatchOption, IfSome, IfNone};
-ghost use Rattle.pc_rules.specs.Outcome.{Reads};
+ghost use Rattle.pc_rules.specs.Parsed.{Reads};
 ghost use Rattle.pc_rules.specs.Words as spec;
 
 use crate::fault::{RuleFault, refused};

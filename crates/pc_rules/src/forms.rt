@@ -2,7 +2,7 @@
 
 ghost use Rattle.std.specs.Prelude.{◌≡◌, ◌==◌, length};
 ghost use Rattle.std.specs.List.{list_all};
-ghost use Rattle.pc_rules.specs.Outcome.{Reads};
+ghost use Rattle.pc_rules.specs.Parsed.{Reads};
 ghost use Rattle.pc_rules.specs.Reading as spec;
 
 use crate::cursor::Cursor;

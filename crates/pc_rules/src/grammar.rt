@@ -2,7 +2,7 @@
 //! left. The depth says how deep parentheses may still nest, which bounds the stack.
 
 ghost use Rattle.std.specs.Prelude.{◌≡◌, Ok};
-ghost use Rattle.pc_rules.specs.Outcome.{Gives, Reads};
+ghost use Rattle.pc_rules.specs.Parsed.{Gives, Reads};
 ghost use Rattle.pc_rules.specs.Words.{listed, several, eat_word};
 ghost use Rattle.pc_rules.specs.Reading as spec;
 

@@ -1,7 +1,7 @@
 //! Lists of words.
 
 ghost use Rattle.std.specs.Prelude.{◌≡◌, ◌<◌, length, IfOk, OnOk};
-ghost use Rattle.pc_rules.specs.Outcome.{Reads};
+ghost use Rattle.pc_rules.specs.Parsed.{Reads};
 ghost use Rattle.pc_rules.specs.Words as spec;
 
 use crate::cursor::Cursor;

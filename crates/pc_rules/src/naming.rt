@@ -1,7 +1,7 @@
 //! The rule that a phrase names, with positions in place of words.
 
 ghost use Rattle.std.specs.Prelude.{◌≡◌, map, Ok};
-ghost use Rattle.pc_rules.specs.Outcome.{Gives};
+ghost use Rattle.pc_rules.specs.Parsed.{Gives};
 ghost use Rattle.pc_rules.specs.declared.phrase.Phrase.TheOpen.{Is, IsNot, OneOf, Same, Table};
 ghost use Rattle.pc_rules.specs.Naming as spec;
 

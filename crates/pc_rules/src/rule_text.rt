@@ -4,7 +4,7 @@ ghost use Rattle.std.specs.Prelude.{◌≡◌, true, Ok, List, IfOk};
 ghost use Rattle.pc_file.specs.declared.rule.Rule.{Rule};
 ghost use Rattle.pc_file.specs.declared.variable.Variable.{Variable};
 ghost use Rattle.pc_file.specs.Limits.{is_rule};
-ghost use Rattle.pc_rules.specs.Outcome.{Gives};
+ghost use Rattle.pc_rules.specs.Parsed.{Gives};
 ghost use Rattle.pc_file.specs.Catalogue.{Indexes};
 ghost use Rattle.pc_rules.specs.RuleText as spec;
 ghost use Rattle.pc_rules.specs.RuleText.{IsRuleText};

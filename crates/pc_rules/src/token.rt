@@ -3,7 +3,7 @@
 ghost use Rattle.std.specs.Prelude.{◌≡◌, ◌<◌, ◌≤◌, length, IfSome, MatchOption};
 ghost use Rattle.std.specs.List.{take_while};
 ghost use Rattle.pc_names.specs.Name.{is_name_byte};
-ghost use Rattle.pc_rules.specs.Outcome.{Gives};
+ghost use Rattle.pc_rules.specs.Parsed.{Gives};
 ghost use Rattle.pc_rules.specs.Token as spec;
 
 use crate::fault::RuleFault;

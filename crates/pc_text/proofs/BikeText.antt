@@ -18,7 +18,7 @@ use Rattle.pc_text.specs.Given.{catalogue_of}
 use Rattle.pc_rules.specs.Grammar as grammar
 use Rattle.pc_names.specs.LineWords.{words, first_word, from_word, after_word}
 use Rattle.pc_rules.specs.Naming.{named_step, variable_at, value_at}
-use Rattle.pc_rules.specs.Outcome.{Outcome}
+use Rattle.pc_rules.specs.Parsed.{Parsed}
 use Rattle.pc_rules.specs.RuleFaults.{fault_step, test_of, repeat_step}
 use Rattle.pc_rules.specs.RuleText.{IsRuleText}
 use Rattle.pc_text.specs.Spells.{IsSmallText, Spells, significant_lines}
@@ -86,7 +86,7 @@ first_spelled = record {
   spelled = grammar.implies (omega arith) (grammar.is 1 (codes "frame") (codes "carbon") refl) (grammar.is 1 (codes "wheel") (codes "w28") refl);
   numbers = first_phrase _ (fault_step (test_of Number)) (codes "frame") (codes "carbon") (codes "wheel") (codes "w28");
   lengths = first_phrase _ (fault_step (test_of Length)) (codes "frame") (codes "carbon") (codes "wheel") (codes "w28");
-  named = first_phrase (Outcome Rule) (named_step names) (codes "frame") (codes "carbon") (codes "wheel") (codes "w28");
+  named = first_phrase (Parsed Rule) (named_step names) (codes "frame") (codes "carbon") (codes "wheel") (codes "w28");
   once = first_rule _ repeat_step 0 2 1 1;
 }
 
@@ -101,7 +101,7 @@ second_spelled = record {
       (grammar.more (grammar.is 3 (codes "frame") (codes "steel") refl) (grammar.more (grammar.is 3 (codes "light") (codes "led") refl) (grammar.none 3)))));
   numbers = second_phrase _ (fault_step (test_of Number)) (codes "frame") (codes "steel") (codes "light") (codes "led");
   lengths = second_phrase _ (fault_step (test_of Length)) (codes "frame") (codes "steel") (codes "light") (codes "led");
-  named = second_phrase (Outcome Rule) (named_step names) (codes "frame") (codes "steel") (codes "light") (codes "led");
+  named = second_phrase (Parsed Rule) (named_step names) (codes "frame") (codes "steel") (codes "light") (codes "led");
   once = second_rule _ repeat_step 0 0 2 1;
 }
 

@@ -6,10 +6,10 @@ use Rattle.pc_diagram.specs.declared.raw_diagram.RawDiagram.{RawDiagram}
 use Rattle.pc_diagram.specs.declared.side.Side.{Side}
 use Rattle.pc_diagram.specs.declared.side.Side.TheVariants.{Heads, Tails}
 use Rattle.pc_pareto.specs.declared.fronts.Fronts.{Fronts}
-use Rattle.pc_diagram.specs.Choices.{value_of}
+use Rattle.pc_diagram.specs.Choices.{value_of, AgreeBeside}
 use Rattle.pc_diagram.proofs.ChoiceLemmas.{value_of-push}
 use Rattle.pc_pareto.specs.declared.limits.TheConstants.{MOST_LABELS}
-use Rattle.pc_pareto.specs.Again.{AgreeBeside, WereFrontsOf}
+use Rattle.pc_pareto.specs.Again.{WereFrontsOf}
 use Rattle.pc_pareto.specs.Fronts.{layer_at, limit_at}
 use Rattle.pc_pareto.specs.FrontsView.{stages_of, distance_of, IsFrontsOf}
 use Rattle.units_fronts.specs.Nodes.{HaveNodes}

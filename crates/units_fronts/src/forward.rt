@@ -1,9 +1,10 @@
 //! Fronts that are brought forward.
 
 ghost use Rattle.std.specs.Prelude.{◌≡◌, ◌≤◌, ◌<◌, [], None, length, slice_index_or, IfOk, OnOk};
+ghost use Rattle.pc_diagram.specs.Choices.{AgreeBeside};
 ghost use Rattle.pc_diagram.specs.NodePaths.{AreCostsOf, AreChoicesOf};
 ghost use Rattle.pc_pareto.specs.declared.limits.TheConstants.{MOST_LABELS};
-ghost use Rattle.pc_pareto.specs.Again.{AgreeBeside, WereFrontsOf};
+ghost use Rattle.pc_pareto.specs.Again.{WereFrontsOf};
 ghost use Rattle.pc_pareto.specs.Fronts.{limit_at};
 ghost use Rattle.pc_pareto.specs.FrontsView.{stages_of, distance_of, IsFrontsOf};
 ghost use Rattle.units_fronts.specs.Nodes.{HaveNodes};

@@ -4,9 +4,9 @@ use Rattle.pc_diagram.specs.declared.choice.Choice.{Choice}
 use Rattle.pc_diagram.specs.declared.costs.CostPair.{CostPair}
 use Rattle.pc_diagram.specs.declared.raw_diagram.RawDiagram.{RawDiagram}
 use Rattle.pc_labels.specs.Kept.{KeptPaths}
-use Rattle.pc_diagram.specs.Choices.{value_of}
+use Rattle.pc_diagram.specs.Choices.{value_of, AgreeBeside}
 use Rattle.pc_diagram.proofs.ChoiceLemmas.{value_of-push}
-use Rattle.pc_labels.specs.Labels.{AreHeads, AreTails, AgreeBeside, WereHeads, WereTails}
+use Rattle.pc_labels.specs.Labels.{AreHeads, AreTails, WereHeads, WereTails}
 use Rattle.units_labels.specs.Nodes.{HaveNodes}
 
 pub heads_have_nodes : (raw : RawDiagram) (choices : List Choice) (costs : List (List CostPair)) (labels : KeptPaths) → AreHeads raw choices costs labels → HaveNodes raw labels

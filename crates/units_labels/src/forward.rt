@@ -1,8 +1,8 @@
 //! Labels that are brought forward.
 
 ghost use Rattle.std.specs.Prelude.{◌≤◌, ◌<◌, [], length, slice_index_or};
+ghost use Rattle.pc_diagram.specs.Choices.{AgreeBeside};
 ghost use Rattle.pc_diagram.specs.NodePaths.{AreCostsOf, AreChoicesOf};
-ghost use Rattle.pc_labels.specs.Labels.{AgreeBeside};
 ghost use Rattle.units_labels.specs.Nodes.{HaveNodes};
 
 use anyhow::Result;

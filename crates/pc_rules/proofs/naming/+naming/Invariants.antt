@@ -1,6 +1,6 @@
 use Rattle.std.proofs.Common.{◌≡◌, map}
 use Rattle.pc_rules.specs.Naming.{all_ok, rule_named}
-use Rattle.pc_rules.proofs.OutcomeLemmas.{with_front}
+use Rattle.pc_rules.proofs.ParsedLemmas.{with_front}
 use Rattle.pc_rules.proofs.naming.+naming.Given as goal
 
 abbrev pub invariant-all_named-loop-phrase : goal.invariant-all_named-loop-phrase

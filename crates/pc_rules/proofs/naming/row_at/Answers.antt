@@ -4,9 +4,9 @@ use Rattle.std.specs.Iterator.Adapters.{zip_first, zip_second}
 use Rattle.std.specs.Slice.Iter.{iter_rest}
 use Rattle.std.proofs.lemmas.Grind.{common_steps}
 use Rattle.std.proofs.lemmas.Slice.Zip.{zip_turn, zip_end, length-zip, get_or-zip}
-use Rattle.pc_rules.specs.Outcome.{Outcome, Fails}
+use Rattle.pc_rules.specs.Parsed.{Parsed, Fails}
 use Rattle.pc_rules.specs.Naming.{value_at}
-use Rattle.pc_rules.proofs.OutcomeLemmas.{with_front, all_ok-more, all_ok-fails, all_ok-done}
+use Rattle.pc_rules.proofs.ParsedLemmas.{with_front, all_ok-more, all_ok-fails, all_ok-done}
 use Rattle.pc_rules.proofs.naming.row_at.Goals as goal
 
 -- where a pair of the loop is
@@ -42,7 +42,7 @@ loop-variable-preserved c =
     let v = c.in-Some.variable.now in
     let w = c.in-Some.word.now in
     let at = at_pair variables words i v w turn.0 turn.1 (turn.2 v) (turn.3 w) in
-    let f : ℕ × List ℕ → Outcome ℕ = λ p. value_at c.args.names.now p.0 p.1 in
+    let f : ℕ × List ℕ → Parsed ℕ = λ p. value_at c.args.names.now p.0 p.1 in
     let more = all_ok-more f (zip variables words) i (v, w) c.in_ok-value_at.field-0 c.loop-variable.positions at.0 at.1 c.in_ok-value_at.ensures in
     let pushed : c.push.new.self ≡ c.loop-variable.positions ++ c.in_ok-value_at.field-0 ∷ [] = c.in_ok-push.ensures.ok in
     let count : length (c.loop-variable.yielded ++ (c.in-Some.variable, c.in-Some.word) ∷ []) ≡ i + 1 = length-append c.loop-variable.yielded ((c.in-Some.variable, c.in-Some.word) ∷ []) in

@@ -1,7 +1,7 @@
 use Rattle.std.proofs.Common.{◌≡◌, length}
 use Rattle.std.specs.List.{zip}
 use Rattle.pc_rules.specs.Naming.{value_at, row_at}
-use Rattle.pc_rules.proofs.OutcomeLemmas.{with_front}
+use Rattle.pc_rules.proofs.ParsedLemmas.{with_front}
 use Rattle.pc_rules.proofs.naming.row_at.Given as goal
 
 abbrev pub invariant-loop-variable : goal.invariant-loop-variable

@@ -1,6 +1,6 @@
 use Rattle.std.proofs.Common.{◌≡◌}
 use Rattle.pc_rules.specs.Naming.{row_at, rows_at}
-use Rattle.pc_rules.proofs.OutcomeLemmas.{with_front}
+use Rattle.pc_rules.proofs.ParsedLemmas.{with_front}
 use Rattle.pc_rules.proofs.naming.rows_at.Given as goal
 
 abbrev pub invariant-loop-row : goal.invariant-loop-row

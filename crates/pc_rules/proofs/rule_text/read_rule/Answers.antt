@@ -1,7 +1,7 @@
 use Rattle.std.proofs.Common.{◌≡◌, true, subst}
 use Rattle.pc_file.specs.declared.rule.Rule.{Rule}
 use Rattle.pc_file.specs.Limits.{is_rule}
-use Rattle.pc_rules.specs.Outcome.{Gives}
+use Rattle.pc_rules.specs.Parsed.{Gives}
 use Rattle.pc_rules.specs.RuleText.{rule_of, IsRuleText}
 use Rattle.pc_rules.proofs.RuleRead.{rule_of-read, rule_of-only, rule_fits, if_read}
 use Rattle.pc_rules.proofs.rule_text.read_rule.Goals as goal

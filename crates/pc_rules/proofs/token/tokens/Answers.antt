@@ -1,6 +1,6 @@
 use Rattle.std.proofs.Common.{◌≡◌, ◌==◌, ◌++◌, ◌∷◌, [], Ok, List, ℕ, false, drop, sym, ap, ◌∙◌, rules}
 use Rattle.pc_rules.specs.declared.token.Token.{Token}
-use Rattle.pc_rules.specs.Outcome.{◌>>=◌}
+use Rattle.pc_rules.specs.Parsed.{◌>>=◌}
 use Rattle.pc_rules.specs.Token.{tokens_after}
 use Rattle.pc_rules.proofs.TokenLemmas.{tokens_after-more}
 use Rattle.pc_rules.proofs.token.tokens.Goals as goal

@@ -1,5 +1,5 @@
 use Rattle.std.proofs.Common.{◌≡◌, ◌++◌, length, Ok}
-use Rattle.pc_rules.specs.Outcome.{◌>>=◌}
+use Rattle.pc_rules.specs.Parsed.{◌>>=◌}
 use Rattle.pc_rules.specs.Token.{tokens_after}
 use Rattle.pc_rules.proofs.token.tokens.Given as goal
 

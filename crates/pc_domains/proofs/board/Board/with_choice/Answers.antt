@@ -1,7 +1,7 @@
 -- The other variables keep their values.
 use Rattle.std.proofs.Common.{sym, subst}
 use Rattle.pc_diagram.proofs.ChoiceLemmas.{value_of-push}
-use Rattle.pc_labels.specs.Labels.{AgreeBeside}
+use Rattle.pc_diagram.specs.Choices.{AgreeBeside}
 use Rattle.pc_domains.proofs.board.Board.with_choice.Goals as goal
 
 pub again-requires-clause-agree : goal.again-requires-clause-agree

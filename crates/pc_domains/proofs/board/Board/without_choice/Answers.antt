@@ -2,10 +2,9 @@
 use Rattle.std.proofs.Common.{Bool, not, ◌==◌, sym, subst}
 use Rattle.std.proofs.lemmas.List.Elements.{All-filter}
 use Rattle.pc_diagram.specs.declared.choice.Choice.{Choice}
-use Rattle.pc_diagram.specs.Choices.{without}
+use Rattle.pc_diagram.specs.Choices.{without, AgreeBeside}
 use Rattle.pc_diagram.specs.NodePaths.{IsChoiceOf}
 use Rattle.pc_diagram.proofs.ChoiceLemmas.{are_distinct-filter, value_of-without}
-use Rattle.pc_labels.specs.Labels.{AgreeBeside}
 use Rattle.pc_domains.specs.Sides.{AreDistinctOf}
 use Rattle.pc_domains.proofs.board.Board.without_choice.Goals as goal
 

@@ -5,17 +5,17 @@ use Rattle.std.proofs.lemmas.List.{append-nil, drop_all}
 use Rattle.pc_rules.specs.declared.kind.Kind.{Kind}
 use Rattle.pc_rules.specs.declared.fault.RuleFault.{RuleFault}
 use Rattle.pc_rules.specs.declared.fault.RuleFault.TheVariants.{Fault, NoMemory}
-use Rattle.pc_rules.specs.Outcome.{Outcome, ◌>>=◌, Fails}
+use Rattle.pc_rules.specs.Parsed.{Parsed, ◌>>=◌, Fails}
 use Rattle.pc_rules.specs.Naming.{all_ok}
 
-regroup : {B : Type 0} (y : B) (front : List B) (rest : Outcome (List B)) →
+regroup : {B : Type 0} (y : B) (front : List B) (rest : Parsed (List B)) →
     ((rest >>= λ ys. Ok (y ∷ ys)) >>= λ more. Ok (front ++ more)) ≡ (rest >>= λ more. Ok ((front ++ y ∷ []) ++ more))
 regroup y front (Ok ys) = ap Ok (sym (append_assoc front (y ∷ []) ys))
 regroup y front (Err kind) = refl
 
-module _ {A B : Type 0} (f : A → Outcome B) (xs : List A) where
+module _ {A B : Type 0} (f : A → Parsed B) (xs : List A) where
   -- what comes of the list, where the first so many gave the front
-  abbrev pub with_front : ℕ → List B → Outcome (List B)
+  abbrev pub with_front : ℕ → List B → Parsed (List B)
   with_front i front = all_ok (map f (drop i xs)) >>= λ more. Ok (front ++ more)
 
   next : (i : ℕ) (x : A) (front : List B) → i < length xs → x ≡ get_or xs i x →
