@@ -1,9 +1,10 @@
 -- Bounds of the bike, over the list of its products.
-use Rattle.std.proofs.Common.{◌≡◌, ℕ, ◌==◌, ℤ, pos, codes, nat_eq, List, [], ◌∷◌, length, Option, Some, None, option_map, Ok, Err, ap}
+use Rattle.std.proofs.Common.{◌≡◌, ℕ, ◌==◌, ℤ, pos, codes, nat_eq, List, [], length, Option, Some, None, option_map, Ok, Err, ap}
 use Rattle.std.specs.Cmp.Lexicographic.{pointwise}
 use Rattle.std.specs.List.{list_any}
 use Rattle.std.specs.Option.{option_or}
 use Rattle.std.specs.Prelude.{unwrap_or}
+use Rattle.pc_diagram.specs.declared.choice.Choice.{Choice}
 use Rattle.pc_diagram.specs.declared.side.Side.{Side}
 use Rattle.pc_diagram.specs.declared.side.Side.TheVariants.{Heads, Tails}
 use Rattle.pc_diagram.specs.declared.which.Which.TheVariants.{Second}
@@ -22,19 +23,20 @@ use Rattle.pc_calls.specs.Decision.{Decision, ◌>>=◌, ◌>>◌, refused_by, r
 use Rattle.pc_calls.specs.LabelLimit.{first_limit, label_limit}
 use Rattle.pc_calls.specs.Selection.{Selection, bound, bound_at, fitting_words, free}
 
-abbrev side_over : ℕ → List (List ℕ) → Side → Option (Side × ℕ)
-side_over most words side =
+abbrev side_over : ℕ → List (List ℕ) → List Choice → Side → Option (Side × ℕ)
+side_over most words choices side =
     option_map (λ distance. (side, layer_at side (length (full_domains bike)) distance))
-    (word_limit_at most side (λ word. list_any (pointwise nat_eq word) words) (full_domains bike) (costs_of bike.variables) [])
+    (word_limit_at most side (λ word. list_any (pointwise nat_eq word) words) (full_domains bike) (costs_of bike.variables) choices)
 
-abbrev limit_over : ℕ → List (List ℕ) → Option (Side × ℕ)
-limit_over most words = option_or (side_over most words Heads) (side_over most words Tails)
+-- the limit of labels over these products of the bike
+abbrev pub limit_over : ℕ → List (List ℕ) → List Choice → Option (Side × ℕ)
+limit_over most words choices = option_or (side_over most words choices Heads) (side_over most words choices Tails)
 
 abbrev days : ℤ → Selection
 days most = record { choices = []; bounds = record { first = None; second = Some most } }
 
 abbrev unless_over : ℤ → List (List ℕ) → Decision Selection
-unless_over most words = refused_by (limit_over MOST_LABELS words) (λ limit. LabelLimit limit.0 limit.1) >> Ok (days most)
+unless_over most words = refused_by (limit_over MOST_LABELS words []) (λ limit. LabelLimit limit.0 limit.1) >> Ok (days most)
 
 abbrev fits_over : List (List ℕ) → Selection → Decision Selection
 fits_over words asked =
@@ -46,7 +48,7 @@ abbrev bound_over : ℤ → List (List ℕ) → Decision Selection
 bound_over most words = unless_over most words >>= fits_over words
 
 pub limit_three : first_limit 3 bike [] ≡ Some (Heads, 1)
-limit_three = ap (limit_over 3) bike_products
+limit_three = ap (λ words. limit_over 3 words []) bike_products
 
 pub two_days_are_bound : bound (codes "days") (pos 2) bike free ≡ Ok (days (pos 2))
 unfolding bound_at fitting_words label_limit

@@ -35,3 +35,11 @@ change-next change [] after x (suc (suc place)) is = absurd (omega (arith, is))
 change-next change (y ∷ before) after x zero is = absurd (omega (arith, is))
 change-next change (y ∷ before) after x (suc zero) is = absurd (omega (arith, is))
 change-next change (y ∷ before) after x (suc (suc place)) is = ap (λ xs. y ∷ xs) (change-next change before after x (suc place) (omega (arith, is)))
+
+-- each part of legal entries is legal
+pub legal-split : (state : State) (xs ys : List Entry) → IsLegalFrom state (xs ++ ys) → IsLegalFrom state xs × IsLegalFrom (after_entries state xs) ys
+unfolding after_entries IsLegalFrom
+legal-split state [] ys legal = (tt, legal)
+legal-split state (x ∷ xs) ys legal =
+    let parts = legal-split (after_entry state x) xs ys legal.2 in
+    ((legal.0, legal.1, parts.0), parts.1)

@@ -1,8 +1,14 @@
 pub mod BikeBounds
+pub mod BikeMoves
 pub mod LineWordLemmas
 pub mod TableLemmas
 pub mod KindLemmas
 pub mod WordsSaid
 pub mod Crossing
+pub mod StepCases
 pub mod StepLaws
+pub mod SoundLaws
+pub mod OthersLaws
+pub mod NumberLaws
+pub mod MovesLaws
 pub mod HistoryLemmas

@@ -1,6 +1,12 @@
 -- What may be refused: it gives something, or the refusal that stands first.
-use Rattle.std.specs.Prelude.{Bool, Option, Some, None, Result, Ok, Err, if◌then◌else◌}
+use Rattle.std.specs.Prelude.{Bool, true, false, Option, Some, None, Result, Ok, Err, if◌then◌else◌}
 use Rattle.pc_calls.specs.declared.outcome.Outcome.{Outcome}
+use Rattle.pc_calls.specs.declared.outcome.Outcome.TheVariants.{Done}
+
+-- the call is done, and not refused
+abbrev pub is_done : Outcome → Bool
+is_done Done = true
+is_done refusal = false
 
 abbrev pub Decision : Type 0 → Type 0
 Decision A = Result A Outcome

@@ -1,14 +1,17 @@
 -- The head of the answer to a call, and its reply.
-use Rattle.std.specs.Prelude.{ℕ, Bool, true, false, if◌then◌else◌, [], Option, None, option_map, option_and_then, Ok, Err}
+use Rattle.std.specs.Prelude.{ℕ, Bool, true, false, if◌then◌else◌, List, [], Option, None, option_map, option_and_then, Ok, Err}
 use Rattle.pc_calls.specs.declared.call.Call.{Call}
-use Rattle.pc_calls.specs.declared.call.Call.TheVariants.{Open, Show, Choose, Retract, Bound, Unbound, Rebase, Close, Publish}
+use Rattle.pc_calls.specs.declared.call.Call.TheVariants.{Open, Show, Choose, Retract, Bound, Unbound, Rebase, Close, Publish, Reclaim, Versions}
 use Rattle.pc_calls.specs.declared.head.Head.{Head}
 use Rattle.pc_calls.specs.declared.reply.Reply.{Reply}
 use Rattle.pc_calls.specs.declared.reply.Shown.{Shown}
+use Rattle.pc_calls.specs.declared.dropped.Dropped.{Dropped}
+use Rattle.pc_calls.specs.declared.live.Live.{Live}
+use Rattle.pc_calls.specs.Carry.{Carried}
 use Rattle.pc_calls.specs.Decision.{Decision}
 use Rattle.pc_calls.specs.Selection.{shown}
-use Rattle.pc_calls.specs.State.{State, current, file_of, opened_by, session_of, version_in}
-use Rattle.pc_calls.specs.Step.{step, outcome_of, state_of}
+use Rattle.pc_calls.specs.State.{State, current, file_of, live_list, opened_by, session_of, version_in}
+use Rattle.pc_calls.specs.Step.{move, step, outcome_of, state_of}
 
 -- the session that a call asks for, or that it opened; else 0
 abbrev pub session_told : ℕ → Call → Decision State → ℕ
@@ -23,7 +26,8 @@ session_told caller (Rebase session version dropping) result = session
 session_told caller (Close session) result = session
 session_told caller call result = 0
 
--- The version of that session after the call, or that a close let go; the version that a publish made; else 0.
+-- The version of that session after the call, or that a close let go; the version that a publish made or a reclaim asks
+-- for; what was current where the live versions are told; else 0.
 abbrev pub version_told : ℕ → Call → State → Decision State → ℕ
 version_told caller Open before (Ok later) = version_in later caller (opened_by later caller)
 version_told caller Open before (Err refusal) = 0
@@ -36,12 +40,29 @@ version_told caller (Rebase session version dropping) before result = version_in
 version_told caller (Close session) before result = version_in before caller session
 version_told caller (Publish base file) before (Ok later) = current later
 version_told caller (Publish base file) before (Err refusal) = 0
+version_told caller (Reclaim version) before result = version
+version_told caller Versions before result = current before
 version_told caller call before result = 0
+
+-- the live versions, where a call asks for them
+abbrev pub live_told : Call → State → List Live
+live_told Versions before = live_list before
+live_told call before = []
+
+-- what was dropped where something was carried over
+abbrev pub dropped_by : Decision Carried → List Dropped
+dropped_by (Ok moved) = moved.dropped
+dropped_by (Err refusal) = []
+
+-- what a call dropped
+abbrev pub dropped_told : ℕ → Call → State → List Dropped
+dropped_told caller (Rebase session version dropping) before = dropped_by (move caller session version dropping before)
+dropped_told caller call before = []
 
 -- the head of an answer
 abbrev pub head_by : ℕ → Call → State → Decision State → Head
 head_by caller call before result =
-    record { session = session_told caller call result; version = version_told caller call before result; outcome = outcome_of result; live = []; dropped = [] }
+    record { session = session_told caller call result; version = version_told caller call before result; outcome = outcome_of result; live = live_told call before; dropped = dropped_told caller call before }
 
 -- the head of the answer to a caller's call
 abbrev pub head : ℕ → Call → State → Head

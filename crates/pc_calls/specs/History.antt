@@ -1,10 +1,10 @@
 -- Histories: the calls of all callers in one order, each with the head of its answer.
-use Rattle.std.specs.Prelude.{◌≡◌, ℕ, ◌+◌, ◌==◌, ◌&&◌, Bool, true, false, not, List, [], ◌∷◌, length, filter, option_map, unwrap_or}
+use Rattle.std.specs.Prelude.{◌≡◌, ℕ, ◌+◌, ◌==◌, Bool, true, false, not, List, [], ◌∷◌, length, filter, option_map, unwrap_or}
 use Rattle.pc_calls.specs.declared.call.Call.{Call}
 use Rattle.pc_calls.specs.declared.call.Call.TheVariants.{Enter}
 use Rattle.pc_calls.specs.declared.entry.Entry.{Entry}
 use Rattle.pc_calls.specs.State.{State, empty, numbered}
-use Rattle.pc_calls.specs.Step.{after, has_row}
+use Rattle.pc_calls.specs.Step.{after}
 use Rattle.pc_calls.specs.Heads.{head}
 
 -- the state after one more entry
@@ -24,10 +24,10 @@ state_after = after_entries empty
 abbrev pub is_present : State → ℕ → Bool
 is_present state caller = unwrap_or (option_map (λ c. not c.left) (numbered state.callers caller)) false
 
--- an enter has the next caller's number, and any other call has its row and is made by a caller that has entered and not left
+-- an enter has the next caller's number, and any other call is made by a caller that has entered and not left
 abbrev pub may_make : State → ℕ → Call → Bool
 may_make state caller Enter = caller == length state.callers + 1
-may_make state caller call = has_row call && is_present state caller
+may_make state caller call = is_present state caller
 
 -- each entry is a call that its caller may make, with the head of the answer to it, from a state on
 unfoldable pub IsLegalFrom : State → List Entry → Type 0

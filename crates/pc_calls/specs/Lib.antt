@@ -13,3 +13,9 @@ pub mod ReplyText
 pub mod Selection
 pub mod State
 pub mod Step
+pub mod Carry
+pub mod Sound
+pub mod Numbers
+pub mod LocalReply
+pub mod OwnedSessions
+pub mod BikeMoves

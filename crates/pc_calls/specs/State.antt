@@ -1,6 +1,7 @@
 -- The state that calls lead to.
-use Rattle.std.specs.Prelude.{ℕ, zero, suc, ◌==◌, Bool, ◌&&◌, List, [], length, find, count_by, Option, None, option_map, slice_get, unwrap_or}
+use Rattle.std.specs.Prelude.{ℕ, zero, suc, ◌==◌, Bool, false, ◌&&◌, if◌then◌else◌, List, [], ◌∷◌, length, find, count_by, Option, None, option_map, slice_get, unwrap_or}
 use Rattle.pc_file.specs.Limits.{Contents}
+use Rattle.pc_calls.specs.declared.live.Live.{Live}
 use Rattle.pc_calls.specs.Selection.{Selection}
 
 -- a published version: its file, and whether it is live
@@ -46,6 +47,25 @@ live_versions state = count_by (λ version. version.live) state.versions
 -- the file of a version; none where that number wasn't given
 abbrev pub file_of : State → ℕ → Option Contents
 file_of state version = option_map (λ v. v.file) (numbered state.versions version)
+
+-- the version is live
+abbrev pub is_live : State → ℕ → Bool
+is_live state version = unwrap_or (option_map (λ v. v.live) (numbered state.versions version)) false
+
+-- how many open sessions are at a version
+abbrev pub pins : State → ℕ → ℕ
+pins state version = count_by (λ session. session.version == version) state.sessions
+
+-- of versions whose numbers begin with this one, those that are live, with their pins
+abbrev pub live_from : State → ℕ → List Version → List Live
+live_from state number [] = []
+live_from state number (version ∷ versions) =
+    if version.live then record { version = number; pins = pins state number } ∷ live_from state (suc number) versions
+    else live_from state (suc number) versions
+
+-- the live versions in rising order, with their pins
+abbrev pub live_list : State → List Live
+live_list state = live_from state 1 state.versions
 
 -- how many sessions a caller has opened
 abbrev pub opened_by : State → ℕ → ℕ

@@ -7,10 +7,11 @@ use Rattle.pc_calls.specs.declared.call.Call.{Call}
 use Rattle.pc_calls.specs.declared.call.Call.TheVariants.{Enter, Open, Show, Choose, Retract, Bound, Unbound, Rebase, Close, Publish, Reclaim, Versions, Leave}
 use Rattle.pc_calls.specs.declared.limits.TheConstants.{MOST_LIVE, MOST_SESSIONS}
 use Rattle.pc_calls.specs.declared.outcome.Outcome.{Outcome}
-use Rattle.pc_calls.specs.declared.outcome.Outcome.TheVariants.{Done, NodeLimit, NoProduct, NoSession, NoVersion, SessionsFull, ShelvesFull, Stale}
+use Rattle.pc_calls.specs.declared.outcome.Outcome.TheVariants.{Done, IsCurrent, NodeLimit, NoProduct, NoSession, NoVersion, NotLive, Pinned, SameVersion, SessionsFull, ShelvesFull, Stale}
+use Rattle.pc_calls.specs.Carry.{Carried, moved_to}
 use Rattle.pc_calls.specs.Decision.{Decision, ◌>>=◌, ◌>>◌, refused_by, refused_where, required}
 use Rattle.pc_calls.specs.Selection.{Selection, bound, choose, free, retract, show, unbound}
-use Rattle.pc_calls.specs.State.{Caller, OpenSession, State, current, live_versions, file_of, opened_by, is_owned, is_session, session_of, open_sessions}
+use Rattle.pc_calls.specs.State.{Caller, OpenSession, State, Version, current, live_versions, file_of, is_live, opened_by, is_owned, is_session, pins, session_of, open_sessions}
 
 -- the item of a number, counted from 1, changed
 abbrev pub change_numbered : {A : Type 0} → (A → A) → List A → ℕ → List A
@@ -93,14 +94,39 @@ abbrev pub leave : ℕ → State → Decision State
 leave caller state =
     Ok (record { versions = state.versions; callers = change_numbered gone state.callers caller; sessions = filter (λ s. not (is_owned caller s)) state.sessions })
 
--- The calls whose rows stand below. Of the others nothing is said yet: no legal history has one, and no law speaks of them.
-abbrev pub has_row : Call → Bool
-has_row (Rebase session version dropping) = false
-has_row (Reclaim version) = false
-has_row Versions = false
-has_row call = true
+-- the session is at this version, and asks what was carried over
+abbrev pub at_version : ℕ → Selection → OpenSession → OpenSession
+at_version version selection session = record { owner = session.owner; number = session.number; version = version; selection = selection }
 
--- what a caller's call gives, where it has its row
+-- what a session that moves to a version asks there, and what it drops
+abbrev pub move : ℕ → ℕ → ℕ → Bool → State → Decision Carried
+move caller number version dropping state = do
+  session ← required (session_of state caller number) NoSession
+  refused_where (version == session.version) SameVersion
+  refused_where (not (is_live state version)) (NotLive version)
+  file ← required (file_of state session.version) NoSession
+  target ← required (file_of state version) (NotLive version)
+  moved_to dropping file target session.selection
+
+-- rebase: the session moves to another live version, which carries over by names what it asks
+abbrev pub rebase : ℕ → ℕ → ℕ → Bool → State → Decision State
+rebase caller number version dropping state = do
+  moved ← move caller number version dropping state
+  Ok (record { versions = state.versions; callers = state.callers; sessions = change_first (is_session caller number) (at_version version moved.selection) state.sessions })
+
+-- the version is live no more
+abbrev pub retired : Version → Version
+retired version = record { file = version.file; live = false }
+
+-- reclaim: a live version that isn't current and has no session is live no more
+abbrev pub reclaim : ℕ → State → Decision State
+reclaim version state = do
+  refused_where (not (is_live state version)) (NotLive version)
+  refused_where (version == current state) IsCurrent
+  refused_where (not (pins state version == 0)) (Pinned (pins state version))
+  Ok (record { versions = change_numbered retired state.versions version; callers = state.callers; sessions = state.sessions })
+
+-- what a caller's call gives
 abbrev pub step : ℕ → Call → State → Decision State
 step caller Enter state = enter state
 step caller Open state = open_session caller state
@@ -109,10 +135,12 @@ step caller (Choose session variable value) state = in_session caller session (c
 step caller (Retract session variable) state = in_session caller session (retract variable) state
 step caller (Bound session cost most) state = in_session caller session (bound cost most) state
 step caller (Unbound session cost) state = in_session caller session (unbound cost) state
+step caller (Rebase session version dropping) state = rebase caller session version dropping state
 step caller (Close session) state = close caller session state
 step caller (Publish base file) state = publish base file state
+step caller (Reclaim version) state = reclaim version state
+step caller Versions state = Ok state
 step caller Leave state = leave caller state
-step caller call state = Ok state
 
 abbrev pub outcome_of : Decision State → Outcome
 outcome_of (Ok state) = Done

@@ -32,10 +32,10 @@ use Rattle.pc_conn.specs.declared.item.Item.TheVariants as item
 use Rattle.pc_conn.specs.BodyText.{body_of, body_by}
 use Rattle.std.specs.Fmt.{digits}
 use Rattle.pc_script.specs.declared.item.Awaited.{Awaited}
-use Rattle.pc_script.specs.declared.item.Heard.TheVariants as says
+use Rattle.pc_script.specs.declared.item.Request.TheVariants as says
 use Rattle.pc_script.specs.declared.item.Said.{Said}
-use Rattle.pc_script.specs.Heard.{caller_of, heard, said_with}
-use Rattle.pc_script.specs.Script.{commanded, publishing, beginning, heard_after, said_after, said_of}
+use Rattle.pc_script.specs.Request.{caller_of, requested, said_with}
+use Rattle.pc_script.specs.Script.{commanded, publishing, beginning, requested_after, said_after, said_of}
 use Rattle.pc_script.specs.ScriptHistory.{said_once, said_in, said_entries, entries_from, leaving, script_items, script_history, with_leaves}
 use Rattle.pc_script.proofs.BikeLimit.{bike_small}
 use Rattle.pc_script.specs.BikeScript.{bike_script, bike_items, bike_history}
@@ -85,8 +85,8 @@ bike_body = ap body_of text_lines ∙ body_spelled bike_printed bike (written_sp
 abbrev awaited : Awaited
 awaited = record { caller = 1; publish = record { base = 0; lines = 16; end_column = 15 } }
 
-announced : heard empty (codes "1 publish 0 16") ≡ says.Publish awaited
-unfolding int_of command_of arguments command_line word_of_kind end words_at caller_of heard digits
+announced : requested empty (codes "1 publish 0 16") ≡ says.Publish awaited
+unfolding int_of command_of arguments command_line word_of_kind end words_at caller_of requested digits
 announced = refl
 
 -- its lines are awaited, and then it is said
@@ -98,7 +98,7 @@ taken later = refl
 said_first : (later : List (List ℕ))
     → said_in beginning (codes "1 publish 0 16" ∷ bike_lines ++ later) ≡ said_in (publishing empty awaited []) (bike_lines ++ later)
 unfolding said_in
-said_first later = ap (λ said. said_once said ++ said_in (heard_after empty said) (bike_lines ++ later)) announced
+said_first later = ap (λ said. said_once said ++ said_in (requested_after empty said) (bike_lines ++ later)) announced
 
 -- a file that has these products, and of which no set is too large, is published and opened
 module _ (file : Contents) (some : full file ≡ bikes) (small : file_node_limit file ≡ None) where
@@ -122,7 +122,7 @@ module _ (file : Contents) (some : full file ≡ bikes) (small : file_node_limit
 
   -- what is said after it
   said_last : said_in (commanded (said_after empty (said_with awaited (File file)))) last_lines ≡ record { caller = 1; item = item.Call Open } ∷ record { caller = 1; item = item.Bad 3 } ∷ []
-  unfolding said_in int_of command_of arguments command_line word_of_kind end words_at caller_of heard digits
+  unfolding said_in int_of command_of arguments command_line word_of_kind end words_at caller_of requested digits
   said_last = ap (λ answer. said_in (commanded (state_of one_caller answer)) last_lines) published
 
   -- its entry, after the caller's enter

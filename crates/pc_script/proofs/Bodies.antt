@@ -5,11 +5,11 @@ use Rattle.std.proofs.lemmas.List.{append-nil}
 use Rattle.pc_calls.specs.State.{State}
 use Rattle.pc_conn.specs.declared.body.Body.TheVariants.{Cut}
 use Rattle.pc_script.specs.declared.item.Awaited.{Awaited}
-use Rattle.pc_script.specs.declared.item.Heard.{Heard}
-use Rattle.pc_script.specs.declared.item.Heard.TheVariants as says
+use Rattle.pc_script.specs.declared.item.Request.{Request}
+use Rattle.pc_script.specs.declared.item.Request.TheVariants as says
 use Rattle.pc_script.specs.declared.item.Said.{Said}
-use Rattle.pc_script.specs.Heard.{heard, said_with}
-use Rattle.pc_script.specs.Script.{Script, commanded, publishing, said_text, said_after, is_whole, said_of, body_text, body_after, heard_text, heard_after, answers, after_lines, end_text, last_answers}
+use Rattle.pc_script.specs.Request.{requested, said_with}
+use Rattle.pc_script.specs.Script.{Script, commanded, publishing, said_text, said_after, is_whole, said_of, body_text, body_after, requested_text, requested_after, answers, after_lines, end_text, last_answers}
 
 module _ (state : State) (awaited : Awaited) where
   text-whole : (done : List (List ℕ)) → is_whole awaited done ≡ true → body_text state awaited done ≡ said_text state (said_of awaited done)
@@ -75,25 +75,25 @@ module _ (state : State) (awaited : Awaited) where
       ∙ ap (publishing state awaited) (append_assoc done (line ∷ []) rest)
 
 -- the line of a publish, and the lines after it
-pub announced-text : (state : State) (awaited : Awaited) (line : List ℕ) (rest : List (List ℕ)) → heard state line ≡ says.Publish awaited → answers (commanded state) (line ∷ rest) ≡ body_text state awaited [] ++ answers (body_after state awaited []) rest
+pub announced-text : (state : State) (awaited : Awaited) (line : List ℕ) (rest : List (List ℕ)) → requested state line ≡ says.Publish awaited → answers (commanded state) (line ∷ rest) ≡ body_text state awaited [] ++ answers (body_after state awaited []) rest
 unfolding answers
-announced-text state awaited line rest e = ap (λ (h : Heard). heard_text state h ++ answers (heard_after state h) rest) e
+announced-text state awaited line rest e = ap (λ (h : Request). requested_text state h ++ answers (requested_after state h) rest) e
 
-pub announced-after : (state : State) (awaited : Awaited) (line : List ℕ) (rest : List (List ℕ)) → heard state line ≡ says.Publish awaited → after_lines (commanded state) (line ∷ rest) ≡ after_lines (body_after state awaited []) rest
+pub announced-after : (state : State) (awaited : Awaited) (line : List ℕ) (rest : List (List ℕ)) → requested state line ≡ says.Publish awaited → after_lines (commanded state) (line ∷ rest) ≡ after_lines (body_after state awaited []) rest
 unfolding after_lines
-announced-after state awaited line rest e = ap (λ (h : Heard). after_lines (heard_after state h) rest) e
+announced-after state awaited line rest e = ap (λ (h : Request). after_lines (requested_after state h) rest) e
 
 -- a line that is answered at once
-pub one-text : (state : State) (said : Said) (line : List ℕ) → heard state line ≡ says.Said said → answers (commanded state) (line ∷ []) ≡ said_text state said
+pub one-text : (state : State) (said : Said) (line : List ℕ) → requested state line ≡ says.Said said → answers (commanded state) (line ∷ []) ≡ said_text state said
 unfolding answers
-one-text state said line e = ap (λ (h : Heard). heard_text state h ++ []) e ∙ append-nil (said_text state said)
+one-text state said line e = ap (λ (h : Request). requested_text state h ++ []) e ∙ append-nil (said_text state said)
 
-pub one-after : (state : State) (said : Said) (line : List ℕ) → heard state line ≡ says.Said said → after_lines (commanded state) (line ∷ []) ≡ commanded (said_after state said)
+pub one-after : (state : State) (said : Said) (line : List ℕ) → requested state line ≡ says.Said said → after_lines (commanded state) (line ∷ []) ≡ commanded (said_after state said)
 unfolding after_lines
-one-after state said line e = ap (λ (h : Heard). heard_after state h) e
+one-after state said line e = ap (λ (h : Request). requested_after state h) e
 
 -- a publish that is cut
-pub cut-text : (state : State) (awaited : Awaited) (line : List ℕ) (rest : List (List ℕ)) → heard state line ≡ says.Publish awaited → length rest < awaited.publish.lines → last_answers (commanded state) (line ∷ rest) ≡ said_text state (said_with awaited Cut)
+pub cut-text : (state : State) (awaited : Awaited) (line : List ℕ) (rest : List (List ℕ)) → requested state line ≡ says.Publish awaited → length rest < awaited.publish.lines → last_answers (commanded state) (line ∷ rest) ≡ said_text state (said_with awaited Cut)
 cut-text state awaited line rest e few =
     ap (λ (t : List ℕ). t ++ end_text (after_lines (commanded state) (line ∷ rest))) (announced-text state awaited line rest e ∙ part-text state awaited [] rest (omega (arith, few)))
     ∙ ap end_text (announced-after state awaited line rest e ∙ part-after state awaited [] rest (omega (arith, few)))

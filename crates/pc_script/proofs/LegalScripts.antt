@@ -14,7 +14,7 @@ use Rattle.pc_conn.specs.declared.item.Item.{Item}
 use Rattle.pc_conn.specs.declared.item.Item.TheVariants as item
 use Rattle.pc_conn.specs.declared.body.Body.TheVariants.{Cut}
 use Rattle.pc_script.specs.declared.item.Said.{Said}
-use Rattle.pc_script.specs.Heard.{has_left, may_speak, most_callers, said_with}
+use Rattle.pc_script.specs.Request.{has_left, may_speak, most_callers, said_with}
 use Rattle.pc_script.specs.Script.{Script, commanded, publishing, beginning, entered, line_after, said_after}
 use Rattle.pc_script.specs.ScriptHistory.{entering, entries_from, item_entries, leaving, said_entries, said_in, script_history, script_items}
 use Rattle.pc_script.proofs.ScriptTexts.{entering-state, said-state}

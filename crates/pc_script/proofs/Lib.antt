@@ -2,7 +2,7 @@ pub mod AnswerLemmas
 pub mod BikeLimit
 pub mod BikeScripts
 pub mod Bodies
-pub mod HeardNext
+pub mod RequestNext
 pub mod LegalScripts
 pub mod MadeCalls
 pub mod Places

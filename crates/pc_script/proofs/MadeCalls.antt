@@ -6,7 +6,7 @@ use Rattle.pc_calls.specs.declared.line_call.LineCall.TheVariants.{Whole}
 use Rattle.pc_calls.specs.CallWords.{spellings, call_words, IsSayable}
 use Rattle.pc_calls.specs.CommandLine.{command_of}
 use Rattle.pc_calls.specs.LineWords.{LineWord}
-use Rattle.pc_script.specs.Heard.{is_later}
+use Rattle.pc_script.specs.Request.{is_later}
 use Rattle.pc_script.specs.Made.{IsMadeCall, is_later_first}
 
 not-later : (words : List LineWord) (first : List ℕ) (rest : List (List ℕ)) → spellings words ≡ first ∷ rest → is_later (command_of first) ≡ true → is_later_first words ≡ false → ⊥

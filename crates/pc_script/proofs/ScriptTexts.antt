@@ -12,7 +12,7 @@ use Rattle.pc_conn.specs.declared.body.Body.TheVariants.{Cut}
 use Rattle.pc_conn.specs.declared.item.Item.{Item}
 use Rattle.pc_conn.specs.declared.item.Item.TheVariants as item
 use Rattle.pc_script.specs.declared.item.Said.{Said}
-use Rattle.pc_script.specs.Heard.{said_with}
+use Rattle.pc_script.specs.Request.{said_with}
 use Rattle.pc_script.specs.Script.{Script, commanded, publishing, beginning, after_item, after_lines, answers, end_text, entered, last_answers, line_after, line_text, said_after, said_text, script_text}
 use Rattle.pc_script.specs.ScriptHistory.{entering, item_entries, said_entries, said_in, script_items, texts_after}
 use Rattle.pc_script.proofs.ScriptTurns.{line-turns, state_at, Turns, Waits}

@@ -18,12 +18,12 @@ use Rattle.pc_conn.specs.Items.{heard as heard_words, heard_call}
 use Rattle.pc_conn.specs.BodyText.{body_of}
 use Rattle.pc_file.specs.PrintedForm.{text_of_lines}
 use Rattle.pc_script.specs.declared.item.Awaited.{Awaited}
-use Rattle.pc_script.specs.declared.item.Heard.{Heard}
-use Rattle.pc_script.specs.declared.item.Heard.TheVariants as says
+use Rattle.pc_script.specs.declared.item.Request.{Request}
+use Rattle.pc_script.specs.declared.item.Request.TheVariants as says
 use Rattle.pc_script.specs.declared.item.Said.{Said}
-use Rattle.pc_script.specs.Heard.{bad_at, caller_of, heard, heard_after, heard_command, heard_from, is_later, may_speak, of_caller, only_if, said_with}
+use Rattle.pc_script.specs.Request.{bad_at, caller_of, requested, requested_after, requested_command, requested_from, is_later, may_speak, of_caller, only_if, said_with}
 use Rattle.pc_script.specs.Made.{IsMadeCall, is_later_first}
-use Rattle.pc_script.specs.Script.{Script, commanded, publishing, body_after, body_text, heard_text, is_whole, line_after, line_text, said_after, said_of, said_text, heard_after as script_after}
+use Rattle.pc_script.specs.Script.{Script, commanded, publishing, body_after, body_text, requested_text, is_whole, line_after, line_text, said_after, said_of, said_text, requested_after as script_after}
 use Rattle.pc_script.specs.ScriptHistory.{body_said, line_said, said_once}
 use Rattle.pc_script.proofs.MadeCalls.{made_by}
 
@@ -92,25 +92,25 @@ spoken call.Versions made = made
 spoken call.Leave made = tt
 
 -- what is heard is of a caller that may speak
-abbrev HeardSpeaks : State → Heard → Type 0
-HeardSpeaks state (says.Said said) = Speaks state said.caller said.item
-HeardSpeaks state (says.Publish awaited) = may_speak state awaited.caller ≡ true
+abbrev RequestSpeaks : State → Request → Type 0
+RequestSpeaks state (says.Said said) = Speaks state said.caller said.item
+RequestSpeaks state (says.Publish awaited) = may_speak state awaited.caller ≡ true
 
-words-speak : (state : State) (caller : ℕ) (line : List ℕ) (from : ℕ) → is_later_first (words_from line from) ≡ false → may_speak state caller ≡ true → HeardSpeaks state (of_caller caller (heard_words line from))
+words-speak : (state : State) (caller : ℕ) (line : List ℕ) (from : ℕ) → is_later_first (words_from line from) ≡ false → may_speak state caller ≡ true → RequestSpeaks state (of_caller caller (heard_words line from))
 words-speak state caller line from known may = by (line_call line from) refl
   where
-    by : (read : Result LineCall BadColumn) → line_call line from ≡ read → HeardSpeaks state (of_caller caller (heard_call (length line) read))
+    by : (read : Result LineCall BadColumn) → line_call line from ≡ read → RequestSpeaks state (of_caller caller (heard_call (length line) read))
     by (Ok (Whole call)) is =
         let said : Says line from (Whole call) = read_is_said line from (Ok (Whole call)) (sym is) in
         (may, spoken call (made_by call (words_from line from) said.0 said.1 known))
     by (Ok (PublishHead base lines)) is = may
     by (Err bad) is = tt
 
-command-speaks : (state : State) (caller : ℕ) (line : List ℕ) (from : ℕ) (words : List LineWord) → words_from line from ≡ words → may_speak state caller ≡ true → HeardSpeaks state (heard_command caller line from words)
+command-speaks : (state : State) (caller : ℕ) (line : List ℕ) (from : ℕ) (words : List LineWord) → words_from line from ≡ words → may_speak state caller ≡ true → RequestSpeaks state (requested_command caller line from words)
 command-speaks state caller line from [] are may = words-speak state caller line from (ap is_later_first are) may
 command-speaks state caller line from (word ∷ words) are may = by (is_later (command_of word.bytes)) refl
   where
-    by : (later : Bool) → is_later (command_of word.bytes) ≡ later → HeardSpeaks state (if later then bad_at caller (word.place + 1) else of_caller caller (heard_words line from))
+    by : (later : Bool) → is_later (command_of word.bytes) ≡ later → RequestSpeaks state (if later then bad_at caller (word.place + 1) else of_caller caller (heard_words line from))
     by true is = tt
     by false is = words-speak state caller line from (ap is_later_first are ∙ is) may
 
@@ -129,25 +129,25 @@ caller-may : (state : State) (word : List ℕ) (caller : ℕ) → caller_of stat
 unfolding caller_of
 caller-may state word caller e = named-may state (unsigned_of word) caller e
 
-from-speaks : (state : State) (line : List ℕ) (words : List LineWord) → HeardSpeaks state (heard_from state line words)
+from-speaks : (state : State) (line : List ℕ) (words : List LineWord) → RequestSpeaks state (requested_from state line words)
 from-speaks state line [] = tt
 from-speaks state line (word ∷ words) = by (caller_of state word.bytes) refl
   where
-    by : (caller : Option ℕ) → caller_of state word.bytes ≡ caller → HeardSpeaks state (heard_after caller line word)
+    by : (caller : Option ℕ) → caller_of state word.bytes ≡ caller → RequestSpeaks state (requested_after caller line word)
     by None is = tt
     by (Some caller) is = command-speaks state caller line (end_of word) (words_from line (end_of word)) refl (caller-may state word.bytes caller is)
 
-heard-speaks : (state : State) (line : List ℕ) → HeardSpeaks state (heard state line)
-unfolding heard
-heard-speaks state line = from-speaks state line (words_from line 0)
+request-speaks : (state : State) (line : List ℕ) → RequestSpeaks state (requested state line)
+unfolding requested
+request-speaks state line = from-speaks state line (words_from line 0)
 
-heard-turns : (state : State) (h : Heard) → HeardSpeaks state h → TurnsTo state (heard_text state h) (said_once h) (script_after state h)
-heard-turns state (says.Said said) speaks = record { says = inr (said, refl, refl, refl, speaks); waits = tt }
-heard-turns state (says.Publish awaited) may = body-turns state awaited [] may
+request-turns : (state : State) (h : Request) → RequestSpeaks state h → TurnsTo state (requested_text state h) (said_once h) (script_after state h)
+request-turns state (says.Said said) speaks = record { says = inr (said, refl, refl, refl, speaks); waits = tt }
+request-turns state (says.Publish awaited) may = body-turns state awaited [] may
 
 -- each line turns
 pub line-turns : (script : Script) (line : List ℕ) → Waits script → Turns script line
-line-turns (commanded state) line waits = heard-turns state (heard state line) (heard-speaks state line)
+line-turns (commanded state) line waits = request-turns state (requested state line) (request-speaks state line)
 line-turns (publishing state awaited lines) line may = body-turns state awaited (lines ++ line ∷ []) may
 
 -- what is said with the end is no call

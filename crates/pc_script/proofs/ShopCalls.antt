@@ -1,19 +1,18 @@
 -- The calls of a shop with one caller, against the definition of a step.
-use Rattle.std.proofs.Common.{◌≡◌, ℕ, zero, suc, ◌==◌, Bool, true, false, cond, List, [], ◌∷◌, map, find, Option, Some, None, Ok, Err, option_map, slice_get, All, refl, sym, subst, ap, ◌∙◌, arith}
-use Rattle.std.specs.Prelude.{option_and_then, unwrap_or}
+use Rattle.std.proofs.Common.{◌≡◌, ℕ, zero, suc, ◌==◌, Bool, true, false, cond, List, [], ◌∷◌, map, find, Option, Some, None, Ok, Err, option_map, slice_get, All, IfSome, refl, sym, subst, ap, ◌∙◌, arith}
 use Rattle.std.proofs.lemmas.Bool.Decides.{nat_tests}
 use Rattle.std.proofs.lemmas.List.Elements.{All-head, All-tail}
 use Rattle.pc_file.specs.Limits.{Contents}
 use Rattle.pc_calls.specs.declared.outcome.Outcome.{Outcome}
-use Rattle.pc_calls.specs.declared.outcome.Outcome.TheVariants.{Done, NoSession}
-use Rattle.pc_calls.specs.declared.reply.Reply.{Reply}
+use Rattle.pc_calls.specs.declared.outcome.Outcome.TheVariants.{Done}
 use Rattle.pc_calls.specs.declared.call.Call.{Call}
-use Rattle.pc_calls.specs.declared.call.Call.TheVariants.{Show}
-use Rattle.pc_calls.specs.Decision.{Decision, ◌>>=◌, required}
-use Rattle.pc_calls.specs.Heads.{head_by, is_shown, reply, session_told, shown_by, shown_of, version_told}
-use Rattle.pc_calls.specs.Selection.{Selection, show, shown}
-use Rattle.pc_calls.specs.State.{OpenSession, State, numbered, file_of, is_session, session_of, version_in}
-use Rattle.pc_calls.specs.Step.{after, asking, change_first, step, in_session, state_of, with_selection}
+use Rattle.pc_calls.specs.Decision.{Decision}
+use Rattle.pc_calls.specs.Heads.{reply}
+use Rattle.pc_calls.specs.LocalReply.{local_call, no_session, reply_by, state_given}
+use Rattle.pc_calls.specs.Selection.{Selection, shown}
+use Rattle.pc_calls.specs.State.{OpenSession, State, numbered, file_of, is_session, session_of}
+use Rattle.pc_calls.specs.Step.{after, asking, change_first, with_selection}
+use Rattle.pc_calls.proofs.OthersLaws.{local_after, local_after_none, local_none, local_reply}
 use Rattle.pc_session.specs.Visit.{Visit, visit_after}
 use Rattle.pc_script.specs.declared.change.Change.{Change}
 use Rattle.pc_script.specs.declared.change.Change.TheVariants.{Choose, Retract, Bound, Unbound}
@@ -114,43 +113,8 @@ module _ (files : List Contents) (entered left : Bool) (opened : ℕ) (visits : 
   pub file-found : (visit : Visit) → IsPinned files visit → file_of here visit.version ≡ Some visit.file
   file-found visit pinned = numbered-shelf files visit.version ∙ pinned
 
-  -- no session has the number
-  in-none : (number : ℕ) (ask : Contents → Selection → Decision Selection) → find (has_number number) visits ≡ None → in_session 1 number ask here ≡ Err NoSession
-  in-none number ask e =
-      ap (λ (o : Option OpenSession). required o NoSession >>= (λ session. required (file_of here session.version) NoSession >>= (λ file. ask file session.selection >>= (λ selection. Ok (with_selection 1 number selection here))))) (session-found number None e)
-
-  -- a session has it
-  in-some : (number : ℕ) (ask : Contents → Selection → Decision Selection) (visit : Visit) → find (has_number number) visits ≡ Some visit → IsPinned files visit
-      → in_session 1 number ask here ≡ (ask visit.file visit.selection >>= (λ selection. Ok (with_selection 1 number selection here)))
-  in-some number ask visit e pinned =
-      ap (λ (o : Option OpenSession). required o NoSession >>= (λ session. required (file_of here session.version) NoSession >>= (λ file. ask file session.selection >>= (λ selection. Ok (with_selection 1 number selection here))))) (session-found number (Some visit) e)
-      ∙ ap (λ (o : Option Contents). required o NoSession >>= (λ file. ask file visit.selection >>= (λ selection. Ok (with_selection 1 number selection here)))) (file-found visit pinned)
-
--- a call that is a session's own
-pub record IsOwn (call : Call) (number : ℕ) (ask : Contents → Selection → Decision Selection) (here : State) : Type 0 where
-  pub gives : step 1 call here ≡ in_session 1 number ask here
-  pub told : (result : Decision State) → session_told 1 call result ≡ number
-  pub versioned : (result : Decision State) → version_told 1 call here result ≡ version_in (state_of here result) 1 number
-  pub does_show : is_shown call ≡ true
-
-abbrev reply_by : Call → State → Decision State → Reply
-reply_by call here result = record { head = head_by 1 call here result; shown = shown_by 1 call result }
-
-refused-reply : (call : Call) (number : ℕ) (ask : Contents → Selection → Decision Selection) (here : State) (refusal : Outcome) → IsOwn call number ask here
-    → reply_by call here (Err refusal) ≡ record { head = plain_head number (version_in here 1 number) refusal; shown = None }
-refused-reply call number ask here refusal own =
-    ap (λ (n : ℕ). record { head = plain_head n (version_told 1 call here (Err refusal)) refusal; shown = None }) (own.told (Err refusal))
-    ∙ ap (λ (v : ℕ). record { head = plain_head number v refusal; shown = None }) (own.versioned (Err refusal))
-
-done-reply : (call : Call) (number : ℕ) (ask : Contents → Selection → Decision Selection) (here later : State) → IsOwn call number ask here
-    → reply_by call here (Ok later) ≡ record { head = plain_head number (version_in later 1 number) Done; shown = shown_of later 1 number }
-done-reply call number ask here later own =
-    ap (λ (b : Bool). record { head = head_by 1 call here (Ok later); shown = cond b (shown_of later 1 (session_told 1 call (Ok later))) None }) own.does_show
-    ∙ ap (λ (n : ℕ). record { head = plain_head n (version_told 1 call here (Ok later)) Done; shown = shown_of later 1 n }) (own.told (Ok later))
-    ∙ ap (λ (v : ℕ). record { head = plain_head number v Done; shown = shown_of later 1 number }) (own.versioned (Ok later))
-
 module _ (files : List Contents) (entered left : Bool) (opened : ℕ) (visits : List Visit) (pinned : All (IsPinned files) visits) (call : Call) (number : ℕ) (ask : Contents → Selection → Decision Selection)
-    (own : IsOwn call number ask (state_by files entered left opened visits)) where
+    (own : local_call call ≡ Some (record { session = number; ask = ask })) where
   abbrev before : State
   before = state_by files entered left opened visits
 
@@ -161,40 +125,29 @@ module _ (files : List Contents) (entered left : Bool) (opened : ℕ) (visits : 
   is-later : (visit : Visit) (selection : Selection) → find (has_number number) visits ≡ Some visit → ask visit.file visit.selection ≡ Ok selection → with_selection 1 number selection before ≡ later_by
   is-later visit selection e gives = ap (λ (ss : List OpenSession). record { versions = map on_shelf files; callers = callers_by entered left opened; sessions = ss }) (change-owned number ask visits visit selection e gives)
 
-  of-visit : (visit : Visit) (result : Decision Selection) → find (has_number number) visits ≡ Some visit → IsPinned files visit → ask visit.file visit.selection ≡ result
-      → (reply 1 call before ≡ visit_reply visit result) × (after 1 call before ≡ later_by)
-  of-visit visit (Err refusal) e is_pinned is =
-      let gives : step 1 call before ≡ Err refusal = own.gives ∙ in-some files entered left opened visits number ask visit e is_pinned ∙ ap (λ (r : Decision Selection). r >>= (λ selection. Ok (with_selection 1 number selection before))) is in
-      let numbered : visit.number ≡ number = found-number number visits visit e in (
-        ap (reply_by call before) gives ∙ refused-reply call number ask before refusal own
-            ∙ ap (λ (o : Option OpenSession). record { head = plain_head number (unwrap_or (option_map (λ s. s.version) o) 0) refusal; shown = None }) (session-found files entered left opened visits number (Some visit) e)
-            ∙ ap (λ (n : ℕ). record { head = plain_head n visit.version refusal; shown = None }) (sym numbered),
-        ap (state_of before) gives ∙ ap (state_by files entered left opened) (sym (refused-leaves number ask visits visit refusal e is)),
-      )
-  of-visit visit (Ok selection) e is_pinned is =
-      let gives : step 1 call before ≡ Ok later_by =
-      own.gives ∙ in-some files entered left opened visits number ask visit e is_pinned ∙ ap (λ (r : Decision Selection). r >>= (λ s. Ok (with_selection 1 number s before))) is ∙ ap (λ (s : State). Ok s) (is-later visit selection e is) in
-      let numbered : visit.number ≡ number = found-number number visits visit e in
-      let found : find (has_number number) (visits_after number ask visits) ≡ Some (visit_after visit (Ok selection)) = find-after number ask visits visit e ∙ ap (λ (r : Decision Selection). Some (visit_after visit r)) is in
-      let there = session-found files entered left opened (visits_after number ask visits) number (Some (visit_after visit (Ok selection))) found in (
-        ap (reply_by call before) gives ∙ done-reply call number ask before later_by own
-            ∙ ap (λ (o : Option OpenSession). record {
-              head = plain_head number (unwrap_or (option_map (λ s. s.version) o) 0) Done;
-              shown = option_and_then (λ s. option_map (λ f. record { file = f; listing = shown f s.selection }) (file_of later_by s.version)) o;
-            }) there
-            ∙ ap (λ (o : Option Contents). record { head = plain_head number visit.version Done; shown = option_map (λ f. record { file = f; listing = shown f selection }) o }) (file-found files entered left opened (visits_after number ask visits) visit is_pinned)
-            ∙ ap (λ (n : ℕ). record { head = plain_head n visit.version Done; shown = Some (record { file = visit.file; listing = shown visit.file selection }) }) (sym numbered),
-        ap (state_of before) gives,
-      )
+  reply-at : (visit : Visit) (result : Decision Selection) → visit.number ≡ number → reply_by number visit.version visit.file result ≡ visit_reply visit result
+  reply-at visit (Ok selection) same = ap (λ (n : ℕ). record { head = plain_head n visit.version Done; shown = Some (record { file = visit.file; listing = shown visit.file selection }) }) (sym same)
+  reply-at visit (Err refusal) same = ap (λ (n : ℕ). record { head = plain_head n visit.version refusal; shown = None }) (sym same)
+
+  state-at : (visit : Visit) (result : Decision Selection) → find (has_number number) visits ≡ Some visit → ask visit.file visit.selection ≡ result → state_given 1 number before result ≡ later_by
+  state-at visit (Ok selection) e is = is-later visit selection e is
+  state-at visit (Err refusal) e is = ap (state_by files entered left opened) (sym (refused-leaves number ask visits visit refusal e is))
 
   of-found : (found : Option Visit) → find (has_number number) visits ≡ found → (reply 1 call before ≡ reply_at number ask found) × (after 1 call before ≡ later_by)
   of-found None e =
-      let gives : step 1 call before ≡ Err NoSession = own.gives ∙ in-none files entered left opened visits number ask e in (
-        ap (reply_by call before) gives ∙ refused-reply call number ask before NoSession own
-            ∙ ap (λ (o : Option OpenSession). record { head = plain_head number (unwrap_or (option_map (λ s. s.version) o) 0) NoSession; shown = None }) (session-found files entered left opened visits number None e),
-        ap (state_of before) gives ∙ ap (state_by files entered left opened) (sym (none-leaves number ask visits e)),
+      let none = session-found files entered left opened visits number None e in (
+        subst (λ o. IfSome o (λ l. session_of before 1 l.session ≡ None → reply 1 call before ≡ no_session l.session)) own (local_none 1 before call) none,
+        subst (λ o. IfSome o (λ l. session_of before 1 l.session ≡ None → after 1 call before ≡ before)) own (local_after_none 1 before call) none
+            ∙ ap (state_by files entered left opened) (sym (none-leaves number ask visits e)),
       )
-  of-found (Some visit) e = of-visit visit (ask visit.file visit.selection) e (found-has (IsPinned files) (has_number number) visits visit pinned e) refl
+  of-found (Some visit) e =
+      let there = session-found files entered left opened visits number (Some visit) e in
+      let read = file-found files entered left opened visits visit (found-has (IsPinned files) (has_number number) visits visit pinned e) in (
+        subst (λ o. IfSome o (λ l. (s : OpenSession) (file : Contents) → session_of before 1 l.session ≡ Some s → file_of before s.version ≡ Some file → reply 1 call before ≡ reply_by l.session s.version file (l.ask file s.selection))) own (local_reply 1 before call) (owned visit) visit.file there read
+            ∙ reply-at visit (ask visit.file visit.selection) (found-number number visits visit e),
+        subst (λ o. IfSome o (λ l. (s : OpenSession) (file : Contents) → session_of before 1 l.session ≡ Some s → file_of before s.version ≡ Some file → after 1 call before ≡ state_given 1 l.session before (l.ask file s.selection))) own (local_after 1 before call) (owned visit) visit.file there read
+            ∙ state-at visit (ask visit.file visit.selection) e refl,
+      )
 
   pub own_reply : reply 1 call before ≡ reply_among number ask visits
   own_reply = (of-found (find (has_number number) visits) refl).0
@@ -202,11 +155,8 @@ module _ (files : List Contents) (entered left : Bool) (opened : ℕ) (visits : 
   pub own_after : after 1 call before ≡ later_by
   own_after = (of-found (find (has_number number) visits) refl).1
 
-pub is_show : (number : ℕ) (here : State) → IsOwn (Show number) number show here
-is_show number here = record { gives = refl; told = λ result. refl; versioned = λ result. refl; does_show = refl }
-
-pub is_change : (number : ℕ) (change : Change) (here : State) → IsOwn (change_call number change) number (changed change) here
-is_change number (Choose variable value) here = record { gives = refl; told = λ result. refl; versioned = λ result. refl; does_show = refl }
-is_change number (Retract variable) here = record { gives = refl; told = λ result. refl; versioned = λ result. refl; does_show = refl }
-is_change number (Bound cost most) here = record { gives = refl; told = λ result. refl; versioned = λ result. refl; does_show = refl }
-is_change number (Unbound cost) here = record { gives = refl; told = λ result. refl; versioned = λ result. refl; does_show = refl }
+pub is_change : (number : ℕ) (change : Change) → local_call (change_call number change) ≡ Some (record { session = number; ask = changed change })
+is_change number (Choose variable value) = refl
+is_change number (Retract variable) = refl
+is_change number (Bound cost most) = refl
+is_change number (Unbound cost) = refl

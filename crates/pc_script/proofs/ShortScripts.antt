@@ -8,14 +8,14 @@ use Rattle.pc_calls.specs.CommandReader.{word_of_kind, end}
 use Rattle.pc_calls.specs.History.{after_entries}
 use Rattle.pc_calls.specs.LineWords.{words_at}
 use Rattle.pc_calls.specs.State.{empty}
-use Rattle.pc_script.specs.Heard.{caller_of, heard}
+use Rattle.pc_script.specs.Request.{caller_of, requested}
 use Rattle.pc_script.specs.Script.{script_text}
 use Rattle.pc_script.specs.ScriptHistory.{said_in, entries_from, leaving, script_items, script_history, texts_after, with_leaves}
 use Rattle.pc_script.specs.ShortScript.{short_script, short_items, short_history, short_text}
 use Rattle.pc_script.proofs.ScriptTexts.{text_is_of_history}
 
 pub short_said : script_items short_script ≡ short_items
-unfolding lines int_of command_of arguments command_line word_of_kind end words_at caller_of heard said_in digits
+unfolding lines int_of command_of arguments command_line word_of_kind end words_at caller_of requested said_in digits
 short_said = refl
 
 entered_and_left : with_leaves (entries_from empty short_items) ≡ short_history

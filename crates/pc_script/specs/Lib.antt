@@ -1,7 +1,7 @@
 pub mod BikeScript
 pub mod Change
 pub mod EndBy
-pub mod Heard
+pub mod Request
 pub mod Made
 pub mod Script
 pub mod ScriptHistory

@@ -6,9 +6,9 @@ use Rattle.pc_calls.specs.CommandLine.{command_of}
 use Rattle.pc_calls.specs.LineWords.{LineWord}
 use Rattle.pc_conn.specs.declared.item.Item.{Item}
 use Rattle.pc_conn.specs.declared.item.Item.TheVariants as item
-use Rattle.pc_script.specs.Heard.{is_later}
-use Rattle.pc_script.specs.declared.item.Heard.{Heard}
-use Rattle.pc_script.specs.declared.item.Heard.TheVariants as says
+use Rattle.pc_script.specs.Request.{is_later}
+use Rattle.pc_script.specs.declared.item.Request.{Request}
+use Rattle.pc_script.specs.declared.item.Request.TheVariants as says
 use Rattle.pc_script.specs.declared.item.Said.{Said}
 
 -- a call that a script makes
@@ -32,7 +32,7 @@ IsMadeItem caller item = ⊤
 abbrev pub IsMade : Said → Type 0
 IsMade said = IsMadeItem said.caller said.item
 
-abbrev pub IsMadeBy : Heard → Type 0
+abbrev pub IsMadeBy : Request → Type 0
 IsMadeBy (says.Said said) = IsMade said
 IsMadeBy (says.Publish awaited) = awaited.caller ≡ 1
 

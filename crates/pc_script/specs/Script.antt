@@ -12,10 +12,10 @@ use Rattle.pc_conn.specs.declared.item.Item.TheVariants as item
 use Rattle.pc_conn.specs.Answers.{answer_text}
 use Rattle.pc_conn.specs.BodyText.{body_of}
 use Rattle.pc_script.specs.declared.item.Awaited.{Awaited}
-use Rattle.pc_script.specs.declared.item.Heard.{Heard}
-use Rattle.pc_script.specs.declared.item.Heard.TheVariants as says
+use Rattle.pc_script.specs.declared.item.Request.{Request}
+use Rattle.pc_script.specs.declared.item.Request.TheVariants as says
 use Rattle.pc_script.specs.declared.item.Said.{Said}
-use Rattle.pc_script.specs.Heard.{heard, said_with}
+use Rattle.pc_script.specs.Request.{requested, said_with}
 
 -- `caller N`
 abbrev pub caller_line : ℕ → List ℕ
@@ -61,22 +61,22 @@ abbrev pub body_after : State → Awaited → List (List ℕ) → Script
 body_after state awaited lines = if is_whole awaited lines then commanded (said_after state (said_of awaited lines)) else publishing state awaited lines
 
 -- what is said is answered, and a publish waits for its text
-abbrev pub heard_text : State → Heard → List ℕ
-heard_text state (says.Said said) = said_text state said
-heard_text state (says.Publish awaited) = body_text state awaited []
+abbrev pub requested_text : State → Request → List ℕ
+requested_text state (says.Said said) = said_text state said
+requested_text state (says.Publish awaited) = body_text state awaited []
 
-abbrev pub heard_after : State → Heard → Script
-heard_after state (says.Said said) = commanded (said_after state said)
-heard_after state (says.Publish awaited) = body_after state awaited []
+abbrev pub requested_after : State → Request → Script
+requested_after state (says.Said said) = commanded (said_after state said)
+requested_after state (says.Publish awaited) = body_after state awaited []
 
 -- what a line is answered
 abbrev pub line_text : Script → List ℕ → List ℕ
-line_text (commanded state) line = heard_text state (heard state line)
+line_text (commanded state) line = requested_text state (requested state line)
 line_text (publishing state awaited lines) line = body_text state awaited (lines ++ line ∷ [])
 
 -- what it leaves
 abbrev pub line_after : Script → List ℕ → Script
-line_after (commanded state) line = heard_after state (heard state line)
+line_after (commanded state) line = requested_after state (requested state line)
 line_after (publishing state awaited lines) line = body_after state awaited (lines ++ line ∷ [])
 
 -- the answers to lines, one after the other

@@ -10,23 +10,23 @@ use Rattle.pc_conn.specs.declared.body.Body.TheVariants.{Cut}
 use Rattle.pc_conn.specs.declared.item.Item.{Item}
 use Rattle.pc_conn.specs.declared.item.Item.TheVariants as item
 use Rattle.pc_script.specs.declared.item.Awaited.{Awaited}
-use Rattle.pc_script.specs.declared.item.Heard.{Heard}
-use Rattle.pc_script.specs.declared.item.Heard.TheVariants as says
+use Rattle.pc_script.specs.declared.item.Request.{Request}
+use Rattle.pc_script.specs.declared.item.Request.TheVariants as says
 use Rattle.pc_script.specs.declared.item.Said.{Said}
-use Rattle.pc_script.specs.Heard.{heard, said_with}
+use Rattle.pc_script.specs.Request.{requested, said_with}
 use Rattle.pc_script.specs.Script.{Script, commanded, publishing, beginning, entered, is_whole, line_after, said_of, said_text}
 
 -- what is said once so many lines of a publish's text are there
 abbrev pub body_said : Awaited → List (List ℕ) → List Said
 body_said awaited lines = if is_whole awaited lines then said_of awaited lines ∷ [] else []
 
-abbrev pub said_once : Heard → List Said
+abbrev pub said_once : Request → List Said
 said_once (says.Said said) = said ∷ []
 said_once (says.Publish awaited) = body_said awaited []
 
 -- what is said with a line
 abbrev pub line_said : Script → List ℕ → List Said
-line_said (commanded state) line = said_once (heard state line)
+line_said (commanded state) line = said_once (requested state line)
 line_said (publishing state awaited lines) line = body_said awaited (lines ++ line ∷ [])
 
 -- what is said with the end: a publish that it cuts

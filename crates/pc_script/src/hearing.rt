@@ -7,7 +7,7 @@ ghost use Rattle.pc_script.specs.Made.{IsMade};
 ghost use Rattle.pc_script.specs.Turns.{Hears, turn_after};
 ghost use Rattle.pc_script.specs.declared.script_end.ScriptEnd.TheVariants.{ReadFault};
 
-use crate::item::Heard;
+use crate::item::Request;
 use crate::script_end::ScriptEnd;
 use crate::shop::Shop;
 use crate::turn::{SaidNext, Turn};
@@ -40,11 +40,11 @@ pub fn hear_next<S: Source>(
         return Ok(None);
     };
     match shop.hear(&line) {
-        Heard::Said(said) => Ok(Some(SaidNext {
+        Request::Said(said) => Ok(Some(SaidNext {
             said,
             turn: Turn::Going,
         })),
-        Heard::Publish(awaited) => {
+        Request::Publish(awaited) => {
             let body = read_body(alloc, lines, source, awaited.publish.lines)?;
             let turn = turn_after(&body);
             Ok(Some(SaidNext {

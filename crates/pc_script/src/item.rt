@@ -18,29 +18,29 @@ pub struct Awaited {
 
 /// What a line says.
 #[derive(Debug, Drop)]
-pub enum Heard {
+pub enum Request {
     Said(Said),
     Publish(Awaited),
 }
 
-impl Heard {
+impl Request {
     ghost use Rattle.std.specs.Prelude.{◌≡◌};
-    ghost use Rattle.pc_script.specs.Heard.{of_caller};
+    ghost use Rattle.pc_script.specs.Request.{of_caller};
 
     /// What the words after CALLER say, as that caller's.
-    pub fn of(caller: u64, heard: pc_conn::Heard) -> Heard
+    pub fn of(caller: u64, heard: pc_conn::Heard) -> Request
         ensures { result ≡ of_caller caller heard }
     {
         match heard {
-            pc_conn::Heard::Item(item) => Heard::Said(Said { caller, item }),
-            pc_conn::Heard::Publish(publish) => Heard::Publish(Awaited { caller, publish }),
+            pc_conn::Heard::Item(item) => Request::Said(Said { caller, item }),
+            pc_conn::Heard::Publish(publish) => Request::Publish(Awaited { caller, publish }),
         }
     }
 }
 
 impl Awaited {
     ghost use Rattle.std.specs.Prelude.{◌≡◌};
-    ghost use Rattle.pc_script.specs.Heard.{said_with};
+    ghost use Rattle.pc_script.specs.Request.{said_with};
     ghost use Rattle.pc_script.specs.Made.{IsMade};
 
     /// What the publish says with its text.

@@ -8,7 +8,7 @@ ghost use Rattle.pc_calls.specs.Heads.{reply};
 ghost use Rattle.pc_calls.specs.State.{State, empty, opened_by};
 ghost use Rattle.pc_calls.specs.Step.{after};
 ghost use Rattle.pc_script.specs.Change.{change_call};
-ghost use Rattle.pc_script.specs.Heard.{may_speak};
+ghost use Rattle.pc_script.specs.Request.{may_speak};
 ghost use Rattle.pc_script.specs.Made.{IsMadeCall};
 ghost use Rattle.pc_script.specs.Script.{entered};
 

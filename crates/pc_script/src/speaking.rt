@@ -7,11 +7,11 @@ ghost use Rattle.pc_calls.specs.ReplyText.{reply_text};
 ghost use Rattle.pc_calls.specs.State.{opened_by};
 ghost use Rattle.pc_calls.specs.Step.{after};
 ghost use Rattle.pc_conn.specs.Items.{heard as heard_words};
-ghost use Rattle.pc_script.specs.Heard.{bad_at, caller_of, heard, heard_command, is_later, of_caller};
+ghost use Rattle.pc_script.specs.Request.{bad_at, caller_of, requested, requested_command, is_later, of_caller};
 ghost use Rattle.pc_script.specs.Made.{IsMade, IsMadeBy, IsMadeCall, is_later_first};
 ghost use Rattle.pc_script.specs.Script.{caller_line, entered, said_after, said_text};
 
-use crate::item::{Heard, Said};
+use crate::item::{Request, Said};
 use crate::shop::Shop;
 use pc_base::{Line, NoMemory, Text};
 use pc_calls::{Call, Command, PlacedWord, first_word, push_reply};
@@ -37,33 +37,33 @@ fn end_of(word: &PlacedWord<'_>) -> u64
 }
 
 /// What the words after CALLER say.
-fn heard_command(caller: u64, line: &Line, from: u64) -> Heard
+fn requested_command(caller: u64, line: &Line, from: u64) -> Request
     requires { caller ≡ 1 }
-    ensures heard { result ≡ heard_command caller line.now from (words_from line.now from) }
+    ensures requested { result ≡ requested_command caller line.now from (words_from line.now from) }
     ensures made { IsMadeBy result }
 {
     match first_word(line.as_slice(), from) {
         Some(word) if is_later(Command::read(word.bytes)) => bad_at(caller, word.wrong().column),
-        _ => heard_known(caller, line, from),
+        _ => requested_known(caller, line, from),
     }
 }
 
 /// What the words after CALLER say, of which the first is none of a later command.
 #[tactic(auto, using(crate::proofs::MadeCalls::made_by))]
-fn heard_known(caller: u64, line: &Line, from: u64) -> Heard
+fn requested_known(caller: u64, line: &Line, from: u64) -> Request
     requires caller { caller ≡ 1 }
     requires known { is_later_first (words_from line.now from) ≡ false }
-    ensures heard { result ≡ of_caller caller (heard_words line.now from) }
+    ensures requested { result ≡ of_caller caller (heard_words line.now from) }
     ensures made { IsMadeBy result }
 {
-    Heard::of(caller, hear(line, from))
+    Request::of(caller, hear(line, from))
 }
 
 /// A line whose first wrong word begins at a column.
-fn bad_at(caller: u64, column: u64) -> Heard
+fn bad_at(caller: u64, column: u64) -> Request
     ensures { result ≡ bad_at caller column }
 {
-    Heard::Said(Said {
+    Request::Said(Said {
         caller,
         item: Item::Bad { column },
     })
@@ -80,22 +80,22 @@ fn push_caller(text: &mut Text, caller: u64) -> Result<(), NoMemory>
 
 impl Shop {
     /// What a line says.
-    #[tactic(auto, unfolding(crate::specs::Heard::heard))]
-    pub fn hear(&self, line: &Line) -> Heard
-        ensures heard { result ≡ heard self.now line.now }
+    #[tactic(auto, unfolding(crate::specs::Request::requested))]
+    pub fn hear(&self, line: &Line) -> Request
+        ensures requested { result ≡ requested self.now line.now }
         ensures made { IsMadeBy result }
     {
         let Some(word) = first_word(line.as_slice(), 0) else {
             return bad_at(0, line.as_slice().len() as u64 + 1);
         };
         match self.caller_of(word.bytes) {
-            Some(caller) => heard_command(caller, line, end_of(&word)),
+            Some(caller) => requested_command(caller, line, end_of(&word)),
             None => bad_at(0, word.wrong().column),
         }
     }
 
     /// The caller that a word names, if it may speak.
-    #[tactic(auto, unfolding(crate::specs::Heard::caller_of))]
+    #[tactic(auto, unfolding(crate::specs::Request::caller_of))]
     fn caller_of(&self, word: &[u8]) -> Option<u64>
         ensures caller { result ≡ caller_of self.now word.now }
         ensures one { IfSome result (λ caller. caller ≡ 1) }

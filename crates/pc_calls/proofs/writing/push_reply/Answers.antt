@@ -1,5 +1,5 @@
 -- The head, what is shown and the last line stand one after the other.
-use Rattle.std.proofs.Common.{◌≡◌, List, ℕ, ◌++◌, codes, OnOk, append_assoc, sym, ap, subst, ◌∙◌}
+use Rattle.std.proofs.Common.{◌≡◌, List, ℕ, ◌++◌, codes, OnOk, append_assoc, ap, subst, ◌∙◌}
 use Rattle.pc_calls.specs.ReplyText.{head_text, reply_text, shown_text}
 use Rattle.pc_calls.proofs.writing.push_reply.Goals as goal
 

@@ -23,11 +23,11 @@ pub returns-clause-reply : goal.returns-clause-reply
 returns-clause-reply c =
     let s = c.self.inside in
     if_ok_to c.change.result (reply_among c.args.number (changed c.args.change) s.guest.sessions.items) (reply 1 (change_call c.args.number c.args.change) c.args.self.now) c.change.ensures.reply
-    (sym (ap (reply 1 (change_call c.args.number c.args.change)) (sym c.self.view_is) ∙ own_reply (files_of s.versions) s.entered s.left s.guest.opened s.guest.sessions.items c.self.invariant.0 (change_call c.args.number c.args.change) c.args.number (changed c.args.change) (is_change c.args.number c.args.change _)))
+    (sym (ap (reply 1 (change_call c.args.number c.args.change)) (sym c.self.view_is) ∙ own_reply (files_of s.versions) s.entered s.left s.guest.opened s.guest.sessions.items c.self.invariant.0 (change_call c.args.number c.args.change) c.args.number (changed c.args.change) (is_change c.args.number c.args.change)))
 
 pub returns-clause-state : goal.returns-clause-state
 returns-clause-state c =
     let s = c.self.inside in
     rw c.change.ensures.opened
     (on_ok_to c.change.result (state_by (files_of s.versions) s.entered s.left s.guest.opened) c.change.new.self.sessions.items (visits_after c.args.number (changed c.args.change) s.guest.sessions.items) (after 1 (change_call c.args.number c.args.change) c.args.self.now) c.change.ensures.sessions
-    (sym (ap (after 1 (change_call c.args.number c.args.change)) (sym c.self.view_is) ∙ own_after (files_of s.versions) s.entered s.left s.guest.opened s.guest.sessions.items c.self.invariant.0 (change_call c.args.number c.args.change) c.args.number (changed c.args.change) (is_change c.args.number c.args.change _))))
+    (sym (ap (after 1 (change_call c.args.number c.args.change)) (sym c.self.view_is) ∙ own_after (files_of s.versions) s.entered s.left s.guest.opened s.guest.sessions.items c.self.invariant.0 (change_call c.args.number c.args.change) c.args.number (changed c.args.change) (is_change c.args.number c.args.change))))

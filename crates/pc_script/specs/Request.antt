@@ -12,8 +12,8 @@ use Rattle.pc_conn.specs.declared.item.Heard.TheVariants as words
 use Rattle.pc_conn.specs.declared.item.Item.TheVariants.{Bad}
 use Rattle.pc_conn.specs.Items.{heard as heard_words, published}
 use Rattle.pc_script.specs.declared.item.Awaited.{Awaited}
-use Rattle.pc_script.specs.declared.item.Heard.{Heard}
-use Rattle.pc_script.specs.declared.item.Heard.TheVariants as says
+use Rattle.pc_script.specs.declared.item.Request.{Request}
+use Rattle.pc_script.specs.declared.item.Request.TheVariants as says
 use Rattle.pc_script.specs.declared.item.Said.{Said}
 
 -- so many callers may speak
@@ -44,31 +44,31 @@ is_later (Some command.Versions) = true
 is_later command = false
 
 -- a caller's line has its first wrong word, or lacks one, at this column; the caller is 0 where none may speak
-abbrev pub bad_at : ℕ → ℕ → Heard
+abbrev pub bad_at : ℕ → ℕ → Request
 bad_at caller column = says.Said (record { caller = caller; item = Bad column })
 
 -- what words say, as a caller's
-abbrev pub of_caller : ℕ → HeardWords → Heard
+abbrev pub of_caller : ℕ → HeardWords → Request
 of_caller caller (words.Item item) = says.Said (record { caller = caller; item = item })
 of_caller caller (words.Publish publish) = says.Publish (record { caller = caller; publish = publish })
 
 -- the word of a command, where the script doesn't know it yet, is the first wrong word
-abbrev pub heard_command : ℕ → List ℕ → ℕ → List LineWord → Heard
-heard_command caller line from [] = of_caller caller (heard_words line from)
-heard_command caller line from (word ∷ words) =
+abbrev pub requested_command : ℕ → List ℕ → ℕ → List LineWord → Request
+requested_command caller line from [] = of_caller caller (heard_words line from)
+requested_command caller line from (word ∷ words) =
     if is_later (command_of word.bytes) then bad_at caller (word.place + 1) else of_caller caller (heard_words line from)
 
-abbrev pub heard_after : Option ℕ → List ℕ → LineWord → Heard
-heard_after None line word = bad_at 0 (word.place + 1)
-heard_after (Some caller) line word = heard_command caller line (end_of word) (words_from line (end_of word))
+abbrev pub requested_after : Option ℕ → List ℕ → LineWord → Request
+requested_after None line word = bad_at 0 (word.place + 1)
+requested_after (Some caller) line word = requested_command caller line (end_of word) (words_from line (end_of word))
 
-abbrev pub heard_from : State → List ℕ → List LineWord → Heard
-heard_from state line [] = bad_at 0 (length line + 1)
-heard_from state line (word ∷ words) = heard_after (caller_of state word.bytes) line word
+abbrev pub requested_from : State → List ℕ → List LineWord → Request
+requested_from state line [] = bad_at 0 (length line + 1)
+requested_from state line (word ∷ words) = requested_after (caller_of state word.bytes) line word
 
 -- what a line says to callers in this state
-unfoldable pub heard : State → List ℕ → Heard
-heard state line = heard_from state line (words_from line 0)
+unfoldable pub requested : State → List ℕ → Request
+requested state line = requested_from state line (words_from line 0)
 
 -- what a publish says with its text
 abbrev pub said_with : Awaited → Body → Said

@@ -15,10 +15,10 @@ use Rattle.pc_conn.specs.declared.body_fault.BodyFault.{BodyFault}
 use Rattle.pc_conn.specs.declared.body_fault.BodyFault.TheVariants as body
 use Rattle.pc_conn.specs.Reading.{ReadsBody, GivesBody, IsStopped}
 use Rattle.pc_script.specs.declared.item.Awaited.{Awaited}
-use Rattle.pc_script.specs.declared.item.Heard.TheVariants as says
+use Rattle.pc_script.specs.declared.item.Request.TheVariants as says
 use Rattle.pc_script.specs.declared.item.Said.{Said}
 use Rattle.pc_script.specs.EndBy.{end_by, end_by_body}
-use Rattle.pc_script.specs.Heard.{heard, said_with}
+use Rattle.pc_script.specs.Request.{requested, said_with}
 use Rattle.pc_script.specs.Script.{commanded, answers, said_text, said_after}
 use Rattle.pc_script.specs.Turns.{SaysNext, HearsNone, HearsTurn, Hears, turn_after}
 use Rattle.pc_script.proofs.Bodies.{body-text, body-after, part-text, announced-text, announced-after, one-text, one-after, cut-text}
@@ -54,7 +54,7 @@ hears_fault state fault l m rest mid going exact read kept =
     by_fault state fault _ _ (none-heard state fault _ _ (stopped_at fault l m rest mid going exact read kept))
 
 -- a line says an item
-pub hears_said : (state : State) (said : Said) (line bytes : List ℕ) (before after : Moment) → Took (line ∷ []) bytes before after → heard state line ≡ says.Said said → SaysNext state said before after
+pub hears_said : (state : State) (said : Said) (line bytes : List ℕ) (before after : Moment) → Took (line ∷ []) bytes before after → requested state line ≡ says.Said said → SaysNext state said before after
 hears_said state said line bytes before after took e = record {
   taken = line ∷ [];
   bytes = bytes;
@@ -65,7 +65,7 @@ hears_said state said line bytes before after took e = record {
 }
 
 -- a line and all lines of the text that it announces
-given-body : (state : State) (awaited : Awaited) (body : Body) (line bytes : List ℕ) (before mid after : Moment) → heard state line ≡ says.Publish awaited → Took (line ∷ []) bytes before mid
+given-body : (state : State) (awaited : Awaited) (body : Body) (line bytes : List ℕ) (before mid after : Moment) → requested state line ≡ says.Publish awaited → Took (line ∷ []) bytes before mid
     → (IsTrue mid.cutter.ended → IsTrue after.cutter.ended) → (IsTrue mid.cutter.ended → after.cutter.given ≡ mid.cutter.given)
     → GivesBody awaited.publish.lines body mid after → SaysNext state (said_with awaited body) before after
 given-body state awaited body line bytes before mid after e took stays calm gives = record {
@@ -77,7 +77,7 @@ given-body state awaited body line bytes before mid after e took stays calm give
   then = announced-after state awaited line gives.taken e ∙ body-after state awaited [] gives.taken (omega (arith, gives.all)) ∙ ap (λ (b : Body). commanded (said_after state (said_with awaited b))) (sym gives.gives);
 }
 
-pub hears_body : (state : State) (awaited : Awaited) (body : Body) (line bytes : List ℕ) (before mid after : Moment) → heard state line ≡ says.Publish awaited → Took (line ∷ []) bytes before mid
+pub hears_body : (state : State) (awaited : Awaited) (body : Body) (line bytes : List ℕ) (before mid after : Moment) → requested state line ≡ says.Publish awaited → Took (line ∷ []) bytes before mid
     → (IsTrue mid.cutter.ended → IsTrue after.cutter.ended) → (IsTrue mid.cutter.ended → after.cutter.given ≡ mid.cutter.given)
     → ReadsBody awaited.publish.lines (Ok body) mid after → HearsTurn state (said_with awaited body) (turn_after body) before after
 hears_body state awaited (File file) line bytes before mid after e took stays calm reads = given-body state awaited (File file) line bytes before mid after e took stays calm reads
@@ -91,7 +91,7 @@ hears_body state awaited Cut line bytes before mid after e took stays calm reads
 }
 
 -- a line, and not all lines of the text that it announces
-stopped-body : (state : State) (awaited : Awaited) (fault : LineFault) (line bytes : List ℕ) (before mid after : Moment) → heard state line ≡ says.Publish awaited → Took (line ∷ []) bytes before mid
+stopped-body : (state : State) (awaited : Awaited) (fault : LineFault) (line bytes : List ℕ) (before mid after : Moment) → requested state line ≡ says.Publish awaited → Took (line ∷ []) bytes before mid
     → IsStopped awaited.publish.lines fault mid after → HearsNone state fault before after
 stopped-body state awaited fault line bytes before mid after e took stop = record {
   taken = line ∷ stop.taken;
@@ -102,7 +102,7 @@ stopped-body state awaited fault line bytes before mid after e took stop = recor
   silent = announced-text state awaited line stop.taken e ∙ part-text state awaited [] stop.taken (omega (arith, stop.fewer));
 }
 
-pub hears_body_fault : (state : State) (awaited : Awaited) (fault : BodyFault) (line bytes : List ℕ) (before mid after : Moment) → heard state line ≡ says.Publish awaited → Took (line ∷ []) bytes before mid
+pub hears_body_fault : (state : State) (awaited : Awaited) (fault : BodyFault) (line bytes : List ℕ) (before mid after : Moment) → requested state line ≡ says.Publish awaited → Took (line ∷ []) bytes before mid
     → mid.cutter.fault ≡ None → ReadsBody awaited.publish.lines (Err fault) mid after → Hears state (Err (end_by_body fault)) before after
 hears_body_fault state awaited (body.Line fault) line bytes before mid after e took sound reads = by_fault state fault before after (stopped-body state awaited fault line bytes before mid after e took (reads.stopped sound))
 hears_body_fault state awaited body.NoMemory line bytes before mid after e took sound reads = tt
