@@ -6,4 +6,5 @@ pub mod LayerLemmas
 pub mod NarrowLemmas
 pub mod NewLemmas
 pub mod SizeLemmas
+pub mod ReachedLemmas
 pub mod StoredLemmas

@@ -9,9 +9,10 @@ use Rattle.pc_store.specs.declared.store.Store.{Store}
 use Rattle.pc_store.specs.Sets.{domains_of, IsIdAt, has, has_in, leads, Keeps}
 use Rattle.pc_apply.proofs.BuildLemmas.{leads_kept, ids_kept}
 use Rattle.pc_conjunction.specs.declared.layer.Layer.{Layer}
-use Rattle.pc_conjunction.specs.Places.{entry, domains, accepts, IsColumn, IsLayered}
+use Rattle.pc_conjunction.specs.Places.{entry, place_count, domains, accepts, IsColumn, IsLayered}
+use Rattle.pc_conjunction.specs.Reached.{is_marked, AreReached}
 use Rattle.pc_conjunction.specs.Stores.{ArePlaces, AreOver, goes_on}
-use Rattle.pc_conjunction.proofs.PlaceLemmas.{empty_place, entry_past, entry_within}
+use Rattle.pc_conjunction.proofs.PlaceLemmas.{column_is, empty_place, entry_past, entry_within}
 use Rattle.pc_conjunction.proofs.TargetLemmas.{drop_past}
 
 none : Id
@@ -32,16 +33,20 @@ goes_all store layer count columns below place ids are lt = λ k d inside.
 pub goes_width : (columns : List (List ℕ)) (below : List Id) (place : ℕ) → length (goes_on columns below place) ≡ length columns
 goes_width columns below place = length-map columns (λ places. get_or below (get_or places place 0) (record { layer = 0; node = 0 }))
 
-pub over_none : (store : Store) (layer : ℕ) (columns : List (List ℕ)) (below : List Id) → AreOver store store layer columns below 0 []
-over_none store layer columns below = record { count_is = refl; ids = λ k d lt. absurd (omega arith); words = λ place d lt. absurd (omega arith) }
+-- an id of a layer stays one
+pub id_kept : (old now : Store) (layer : ℕ) (id : Id) → Keeps old now → IsIdAt old layer id → IsIdAt now layer id
+id_kept old now layer id keeps h = (keeps.ids id h.0, h.1)
+
+pub over_none : (store : Store) (layer : ℕ) (columns : List (List ℕ)) (below : List Id) (marks : List Bool) → AreOver store store layer columns below marks 0 []
+over_none store layer columns below marks = record { count_is = refl; ids = λ k d lt. absurd (omega arith); words = λ place d lt. absurd (omega arith) }
 
 -- one place more
-pub over_more : (old mid now : Store) (layer : ℕ) (columns : List (List ℕ)) (below : List Id) (count : ℕ) (sets : List Id) (id : Id) → Keeps old mid → Keeps mid now → All (IsIdAt old (layer + 1)) (goes_on columns below count) → AreOver old mid layer columns below count sets →
-    IsIdAt now layer id → ((word : List ℕ) → has now id word ≡ leads mid (goes_on columns below count) word) → AreOver old now layer columns below (count + 1) (sets ++ id ∷ [])
-over_more old mid now layer columns below count sets id before after known h is words = record {
+pub over_more : (old mid now : Store) (layer : ℕ) (columns : List (List ℕ)) (below : List Id) (marks : List Bool) (count : ℕ) (sets : List Id) (id : Id) → Keeps old mid → Keeps mid now → All (IsIdAt old (layer + 1)) (goes_on columns below count) → AreOver old mid layer columns below marks count sets →
+    IsIdAt now layer id → (is_marked marks count ≡ true → (word : List ℕ) → has now id word ≡ leads mid (goes_on columns below count) word) → AreOver old now layer columns below marks (count + 1) (sets ++ id ∷ [])
+over_more old mid now layer columns below marks count sets id before after known h is words = record {
   count_is = length_push sets id ∙ ap (λ n. n + 1) h.count_is;
   ids = λ k d lt. id_at k d lt (nat_lt k (length sets)) refl;
-  words = λ place d lt word. by place d lt word (nat_lt place (length sets)) refl;
+  words = λ place d lt there word. by place d lt there word (nat_lt place (length sets)) refl;
 }
   where
     long : length (sets ++ id ∷ []) ≡ length sets + 1
@@ -55,35 +60,38 @@ over_more old mid now layer columns below count sets id before after known h is 
         let here : length sets ≡ k = (let n = long in grind (arith, nat_tests)) in
         subst (IsIdAt now layer) (sym (get_or_push sets id d k here)) is
 
-    by : (place : ℕ) (d : Id) → place < length (sets ++ id ∷ []) → (word : List ℕ) → (b : Bool) → nat_lt place (length sets) ≡ b → has now (get_or (sets ++ id ∷ []) place d) word ≡ leads old (goes_on columns below place) word
-    by place d lt word true inside =
+    by : (place : ℕ) (d : Id) → place < length (sets ++ id ∷ []) → is_marked marks place ≡ true → (word : List ℕ) → (b : Bool) → nat_lt place (length sets) ≡ b → has now (get_or (sets ++ id ∷ []) place d) word ≡ leads old (goes_on columns below place) word
+    by place d lt there word true inside =
         let l : place < length sets = grind (arith, nat_tests) in
-        ap (λ i. has now i word) (get_or_append_left sets (id ∷ []) d place l) ∙ after.sets (get_or sets place d) (h.ids place d l).0 word ∙ h.words place d l word
-    by place d lt word false last =
+        ap (λ i. has now i word) (get_or_append_left sets (id ∷ []) d place l) ∙ after.sets (get_or sets place d) (h.ids place d l).0 word ∙ h.words place d l there word
+    by place d lt there word false last =
         let here : length sets ≡ place = (let n = long in grind (arith, nat_tests)) in
         let same : count ≡ place = sym h.count_is ∙ here in
-        ap (λ i. has now i word) (get_or_push sets id d place here) ∙ words word ∙ leads_kept old mid (layer + 1) (goes_on columns below count) before known word ∙ ap (λ p. leads old (goes_on columns below p) word) same
+        ap (λ i. has now i word) (get_or_push sets id d place here) ∙ words (ap (is_marked marks) same ∙ there) word ∙ leads_kept old mid (layer + 1) (goes_on columns below count) before known word ∙ ap (λ p. leads old (goes_on columns below p) word) same
 
--- the sets over those of the places below are those of the places
-pub places_over : (mid now : Store) (layer : ℕ) (first : Layer) (layers : List Layer) (below sets : List Id) → IsLayered (first ∷ layers) → ArePlaces mid (layer + 1) layers below → AreOver mid now layer first.columns.items below first.count sets → ArePlaces now layer (first ∷ layers) sets
-places_over mid now layer first layers below sets h b o = record {
+-- the sets over those of the reached places below are those of the places
+pub places_over : (mid now : Store) (layer : ℕ) (first : Layer) (layers : List Layer) (marks reached : List Bool) (below sets : List Id) → IsLayered (first ∷ layers) → AreReached marks first.columns.items (place_count layers) reached → ArePlaces mid (layer + 1) layers reached below → AreOver mid now layer first.columns.items below marks first.count sets →
+    ArePlaces now layer (first ∷ layers) marks sets
+places_over mid now layer first layers marks reached below sets h r b o = record {
   count_is = o.count_is;
   ids = o.ids;
-  words = λ place d lt word. o.words place d lt word ∙ by place word;
+  words = λ place d lt there word. o.words place d lt there word ∙ by place (let n = o.count_is in omega arith) there word;
 }
   where
-    by : (place : ℕ) (word : List ℕ) → leads mid (goes_on first.columns.items below place) word ≡ accepts (first ∷ layers) place word
-    by place [] = refl
-    by place (value ∷ word) = at (nat_lt value (length first.columns.items)) refl
+    by : (place : ℕ) → place < first.count → is_marked marks place ≡ true → (word : List ℕ) → leads mid (goes_on first.columns.items below place) word ≡ accepts (first ∷ layers) place word
+    by place lt there [] = refl
+    by place lt there (value ∷ word) = at (nat_lt value (length first.columns.items)) refl
       where
         at : (c : Bool) → nat_lt value (length first.columns.items) ≡ c → has_in mid (slice_get (goes_on first.columns.items below place) value) word ≡ accepts layers (entry first place value) word
         at true inside =
             let l : value < length first.columns.items = grind (arith, nat_tests) in
             let long : value < length (goes_on first.columns.items below place) = (let w = goes_width first.columns.items below place in omega arith) in
             let within : entry first place value < length below = (let e = entry_within first layers h place value in let c = b.count_is in omega arith) in
+            let wide = (column_is (place_count layers) first h.0 value l).width in
+            let marked = r.led value place l (omega arith) there in
             ap (λ o. has_in mid o word) (slice_get-get_or (goes_on first.columns.items below place) value (record { layer = 0; node = 0 }) long)
             ∙ ap (λ i. has mid i word) (get_or-map (λ places. get_or below (get_or places place 0) (record { layer = 0; node = 0 })) first.columns.items value [] (record { layer = 0; node = 0 }) l)
-            ∙ b.words (entry first place value) (record { layer = 0; node = 0 }) within word
+            ∙ b.words (entry first place value) (record { layer = 0; node = 0 }) within marked word
         at false past =
             let ge : length first.columns.items ≤ value = grind (arith, nat_tests) in
             let none_there : slice_get (goes_on first.columns.items below place) value ≡ None = past_end (goes_on first.columns.items below place) value (let w = goes_width first.columns.items below place in omega arith) in
@@ -95,12 +103,12 @@ places_over mid now layer first layers below sets h b o = record {
             past_end (x ∷ xs) (suc i) le = past_end xs i (omega arith)
 
 -- the sets of the two places past the last layer
-pub places_past : (store : Store) (layer : ℕ) (empty full : Id) → layer ≡ length (domains_of store) → IsIdAt store layer empty → ((word : List ℕ) → has store empty word ≡ false) → IsIdAt store layer full → ((word : List ℕ) → has store full word ≡ is_word (drop layer (domains_of store)) word) →
-    ArePlaces store layer [] (empty ∷ full ∷ [])
-places_past store layer empty full end empty_is without full_is all = record {
+pub places_past : (store : Store) (layer : ℕ) (empty full : Id) (marks : List Bool) → layer ≡ length (domains_of store) → IsIdAt store layer empty → ((word : List ℕ) → has store empty word ≡ false) → IsIdAt store layer full → ((word : List ℕ) → has store full word ≡ is_word (drop layer (domains_of store)) word) →
+    ArePlaces store layer [] marks (empty ∷ full ∷ [])
+places_past store layer empty full marks end empty_is without full_is all = record {
   count_is = refl;
   ids = ids;
-  words = words;
+  words = λ place d lt there word. words place d lt word;
 }
   where
     ids : (k : ℕ) (d : Id) → k < 2 → IsIdAt store layer (get_or (empty ∷ full ∷ []) k d)

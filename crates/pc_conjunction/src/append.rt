@@ -16,10 +16,10 @@ use pc_store::Store;
 const END_PLACES: u32 = 2;
 
 /// How many places the first of these layers has. The last one of the variables stands first.
-pub(crate) fn count_of(layers: &Sequence<Layer>) -> u32
+pub(crate) fn count_of(layers: &[Layer]) -> u32
     ensures { result ≡ place_count (reverse layers.now) }
 {
-    match layers.as_slice() {
+    match layers {
         [] => END_PLACES,
         [.., first] => first.count,
     }
@@ -48,7 +48,8 @@ pub(crate) fn append(
         Some(first) => {
             let mut grown = first;
             let mut next = IndexSet::new(store.allocator());
-            grown.add_pairs(store, layer, pairs, count_of(layers), &mut next)?;
+            let count = count_of(layers.as_slice());
+            grown.add_pairs(store, layer, pairs, count, &mut next)?;
             append(store, layer + 1, layers, next.as_slice())?;
             layers.push(grown)?;
             Ok(())

@@ -9,6 +9,7 @@ mod conjunction;
 mod layer;
 mod narrow;
 mod pair;
+mod reached;
 mod stored;
 
 pub use conjunction::Conjunction;

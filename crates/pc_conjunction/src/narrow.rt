@@ -56,7 +56,8 @@ fn cut_over(
 {
     let mut cut = first;
     let mut next = IndexSet::new(store.allocator());
-    cut.cut(store, layer, set, count_of(layers), &mut next)?;
+    let count = count_of(layers.as_slice());
+    cut.cut(store, layer, set, count, &mut next)?;
     append(store, layer + 1, layers, next.as_slice())?;
     layers.push(cut)?;
     Ok(())

@@ -42,10 +42,11 @@ append-requires t c =
     let layer = c.requires.layer in
     let few = c.requires.few in
     let more = c.in_ok-add_pairs-in-Some.ensures.next in
-    let none : ArePairs store (c.args.layer + 1) c.count_of.result c.new-next.result.keys = subst (ArePairs store (c.args.layer + 1) c.count_of.result) (sym {A = List Pair} c.new-next.ensures.empty) (λ i pair at. absurd cc) in
-    let pairs : ArePairs store (c.args.layer + 1) (place_count (reverse rest)) c.as_slice.result.now =
-    subst (λ n. ArePairs store (c.args.layer + 1) n c.as_slice.result.now) c.count_of.ensures (subst (ArePairs store (c.args.layer + 1) c.count_of.result) (sym {A = List Pair} c.as_slice.ensures.keys) (more.valid none)) in
-    (omega arith, (omega arith, (few, (rest_below store c.args.layer first.count first (reverse rest) below, (pairs, λ end. c.as_slice.ensures.keys ∙ more.at_end end ∙ c.new-next.ensures.empty)))))
+    let counted : c.count_of-count.result ≡ place_count (reverse rest) = c.count_of-count.ensures ∙ ap (λ (ls : List Layer). place_count (reverse ls)) c.as_slice.ensures in
+    let none : ArePairs store (c.args.layer + 1) c.count_of-count.result c.new-next.result.keys = subst (ArePairs store (c.args.layer + 1) c.count_of-count.result) (sym {A = List Pair} c.new-next.ensures.empty) (λ i pair at. absurd cc) in
+    let pairs : ArePairs store (c.args.layer + 1) (place_count (reverse rest)) c.as_slice-in-Some.result.now =
+    subst (λ n. ArePairs store (c.args.layer + 1) n c.as_slice-in-Some.result.now) counted (subst (ArePairs store (c.args.layer + 1) c.count_of-count.result) (sym {A = List Pair} c.as_slice-in-Some.ensures.keys) (more.valid none)) in
+    (omega arith, (omega arith, (few, (rest_below store c.args.layer first.count first (reverse rest) below, (pairs, λ end. c.as_slice-in-Some.ensures.keys ∙ more.at_end end ∙ c.new-next.ensures.empty)))))
 
 pub returns-in_ok-push-in-Some : goal.returns-in_ok-push-in-Some
 returns-in_ok-push-in-Some t c =
@@ -58,8 +59,9 @@ returns-in_ok-push-in-Some t c =
     let next : List Pair = c.add_pairs.new.next.keys in
     let e : reverse c.args.layers.now ≡ first ∷ reverse rest = ap {A = List Layer} reverse c.in-Some.ensures ∙ reverse_push rest first in
     let below : IsBelow store layer first.count (first ∷ reverse rest) = subst (λ (ls : List Layer). IsBelow store layer (place_count ls) ls) e c.requires.below in
-    let after : IsBelow store (layer + 1) c.count_of.result (reverse rest) = subst (λ n. IsBelow store (layer + 1) n (reverse rest)) (sym c.count_of.ensures) (rest_below store layer first.count first (reverse rest) below) in
-    let extended : Extends store (layer + 1) (reverse rest) (reverse now) next = subst (Extends store (layer + 1) (reverse rest) (reverse now)) c.as_slice.ensures.keys c.in_ok-append-in-Some.ensures in
+    let counted : c.count_of-count.result ≡ place_count (reverse rest) = c.count_of-count.ensures ∙ ap (λ (ls : List Layer). place_count (reverse ls)) c.as_slice.ensures in
+    let after : IsBelow store (layer + 1) c.count_of-count.result (reverse rest) = subst (λ n. IsBelow store (layer + 1) n (reverse rest)) (sym counted) (rest_below store layer first.count first (reverse rest) below) in
+    let extended : Extends store (layer + 1) (reverse rest) (reverse now) next = subst (Extends store (layer + 1) (reverse rest) (reverse now)) c.as_slice-in-Some.ensures.keys c.in_ok-append-in-Some.ensures in
     let over : Extends store layer (first ∷ reverse rest) (grown ∷ reverse now) c.args.pairs.now = extends_over store layer first (reverse rest) (reverse now) next below.layered extended grown c.args.pairs.now (c.in_ok-add_pairs-in-Some.ensures.grown (reverse rest) after) in
     let pushed : reverse c.push.new.self ≡ grown ∷ reverse now = ap {A = List Layer} reverse c.in_ok-push-in-Some.ensures.ok ∙ reverse_push now grown in
     subst (λ (ls : List Layer). Extends store layer ls (reverse c.push.new.self) c.args.pairs.now) (sym e) (subst (λ (ls : List Layer). Extends store layer (first ∷ reverse rest) ls c.args.pairs.now) (sym pushed) over)

@@ -5,5 +5,5 @@ use Rattle.pc_conjunction.proofs.stored.sets_over.Given as goal
 abbrev pub invariant-loop-place : goal.invariant-loop-place
 invariant-loop-place l = record {
   keeps : Keeps l.fn.store l.store;
-  over : AreOver l.fn.store l.store l.layer l.columns l.below l.place l.sets;
+  over : AreOver l.fn.store l.store l.layer l.columns l.below l.marks l.place l.sets;
 }
