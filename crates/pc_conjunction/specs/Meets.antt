@@ -1,5 +1,5 @@
 -- Places that have the words of other places that are in sets.
-use Rattle.std.specs.Prelude.{◌≡◌, ℕ, ◌+◌, ◌<◌, List, ◌∷◌, ◌++◌, Bool, ◌&&◌, Some, length, drop, slice_get, slice_index, slice_index_or}
+use Rattle.std.specs.Prelude.{◌≡◌, ℕ, ◌+◌, ◌-◌, ◌<◌, ◌≤◌, List, ◌∷◌, ◌++◌, Bool, ◌&&◌, Some, length, drop, slice_get, slice_index, slice_index_or}
 use Rattle.pc_store.specs.declared.id.Id.{Id}
 use Rattle.pc_store.specs.declared.store.Store.{Store}
 use Rattle.pc_store.specs.Sets.{domains_of, id_at, IsIdAt, IsNodeAt, has}
@@ -37,6 +37,11 @@ pub record Extends (store : Store) (layer : ℕ) (old new : List Layer) (pairs :
 pub record Meets (store : Store) (layer : ℕ) (layers : List Layer) (pairs : List Pair) (place : ℕ) (test : List ℕ → Bool) (target : ℕ) : Type 0 where
   pub within : target < place_count layers + length pairs
   pub words : (new : List Layer) → HavePlaces store layer layers new pairs → (word : List ℕ) → accepts new target word ≡ (accepts layers place word && test word)
+
+-- a pair has a place of a layer, after so many places that are there
+pub record StandsAt (count : ℕ) (pairs : List Pair) (place : ℕ) (pair : Pair) : Type 0 where
+  pub after : count ≤ place
+  pub is_there : slice_get pairs (place - count) ≡ Some pair
 
 -- more pairs stand after those that were there, and all are pairs of the layer
 pub record MorePairs (store : Store) (layer count : ℕ) (old new : List Pair) : Type 0 where

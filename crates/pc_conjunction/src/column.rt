@@ -5,16 +5,17 @@ ghost use Rattle.pc_store.specs.Sets.{domains_of, IsNodeAt, has, id_at};
 ghost use Rattle.pc_conjunction.specs.declared.layer.Layer.{Layer};
 ghost use Rattle.pc_conjunction.specs.Meets.{IsBelow, ArePairs, MorePairs, GrownColumn, CutColumn};
 
-use crate::pair::{Pair, target};
+use crate::pair::{NO_WORDS, Pair, target};
 use indexmap::IndexSet;
 use pc_base::{NoMemory, Sequence};
 use pc_diagram::MOST_VARIABLES;
 use pc_store::{Node, Store};
 
 /// Puts an entry at the end of a column for each pair of its layer. The next layer has so many places, and its pairs are
-/// put where they aren't there.
+/// put where they aren't there. A pair is first looked for where it goes on by another column, that of the value before.
 pub(crate) fn add_entries(
     column: &mut Sequence<u32>,
+    before: &[u32],
     store: &Store,
     layer: u32,
     value: u32,
@@ -35,15 +36,18 @@ pub(crate) fn add_entries(
             place: column.as_slice()[pair.place as usize],
             node: store.child(pair.node.at(layer), value).node(),
         };
-        column.push(target(store, layer + 1, count, next, next_pair)?)?;
+        let near = entry_near(before, column.len());
+        column.push(target(store, layer + 1, count, next, next_pair, near)?)?;
     }
     Ok(())
 }
 
 /// The same entries, but that each goes on in a set of the next layer, which has so many places. They stay as they are
-/// where that set is the one of all words.
+/// where that set is the one of all words. A pair is first looked for where its place goes on by another column, that
+/// of the value before.
 pub(crate) fn cut_entries(
     column: &[u32],
+    before: &[u32],
     store: &Store,
     layer: u32,
     node: Node,
@@ -66,7 +70,18 @@ pub(crate) fn cut_entries(
             place: *place,
             node,
         };
-        cut.push(target(store, layer, count, next, pair)?)?;
+        let near = entry_near(before, cut.len());
+        cut.push(target(store, layer, count, next, pair, near)?)?;
     }
     Ok(cut)
+}
+
+/// Where a place goes on by a column. Past its end stands place 0.
+fn entry_near(column: &[u32], place: usize) -> u32
+    ensures { result ≡ slice_index_or column.now place 0 }
+{
+    match column.get(place) {
+        Some(entry) => *entry,
+        None => NO_WORDS,
+    }
 }

@@ -1,6 +1,6 @@
 //! One layer of places.
 
-ghost use Rattle.std.specs.Prelude.{◌≡◌, ◌<◌, ◌≤◌, ◌+◌, ℕ, List, length, slice_index, All, IfOk, OnOk};
+ghost use Rattle.std.specs.Prelude.{◌≡◌, ◌<◌, ◌≤◌, ◌+◌, ◌-◌, [], ℕ, List, length, slice_index, slice_index_or, All, IfOk, OnOk};
 ghost use Rattle.pc_store.specs.Sets.{domains_of, IsIdAt};
 ghost use Rattle.pc_conjunction.specs.Meets.{IsBelow, ArePairs, MorePairs, GrownLayer, CutLayer};
 ghost use Rattle.pc_conjunction.specs.Places.{IsLayer, IsNewLayer};
@@ -12,6 +12,7 @@ use pc_base::{NoMemory, Sequence};
 use pc_diagram::MOST_VARIABLES;
 use pc_store::{Id, Store, number};
 use std::alloc::Global;
+use std::mem;
 
 /// The places of one variable: place 0 without words, place 1 that leads to place 1 after each value at first, and more.
 /// There is a column for each value.
@@ -51,8 +52,11 @@ impl Layer {
         ensures next { OnOk result (MorePairs store.now (layer + 1) count next.old.keys next.new.keys) }
     {
         for value in 0..store.domain(layer) {
-            let column = &mut self.columns[value as usize];
-            add_entries(column, store, layer, value, pairs, count, next)?;
+            let none = Sequence::new(store.allocator());
+            let mut column = mem::replace(&mut self.columns[value as usize], none);
+            let before = column_before(self.columns.as_slice(), value);
+            add_entries(&mut column, before, store, layer, value, pairs, count, next)?;
+            self.columns[value as usize] = column;
         }
         self.count = self
             .count
@@ -82,9 +86,22 @@ impl Layer {
         for value in 0..store.domain(layer) {
             let node = store.child(set, value).node();
             let column = self.columns[value as usize].as_slice();
-            let cut = cut_entries(column, store, layer + 1, node, count, next)?;
+            let before = column_before(self.columns.as_slice(), value);
+            let cut = cut_entries(column, before, store, layer + 1, node, count, next)?;
             self.columns[value as usize] = cut;
         }
         Ok(())
     }
+}
+
+/// The column of the value before one. Before the first stands none.
+fn column_before(columns: &[Sequence<u32>], value: u32) -> &[u32]
+    requires { value ≤ length columns.now }
+    ensures first { value ≡ 0 → result.now ≡ [] }
+    ensures later { 0 < value → result.now ≡ slice_index_or columns.now (value - 1) [] }
+{
+    if value == 0 {
+        return &[];
+    }
+    columns[value as usize - 1].as_slice()
 }

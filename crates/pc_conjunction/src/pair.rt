@@ -1,9 +1,9 @@
 //! Places of which only the words of a set are wanted.
 
-ghost use Rattle.std.specs.Prelude.{◌≡◌, ◌<◌, ◌≤◌, ℕ, List, length, IfOk, OnOk};
+ghost use Rattle.std.specs.Prelude.{◌≡◌, ◌<◌, ◌≤◌, ◌↔◌, ℕ, List, length, IsTrue, IfOk, OnOk};
 ghost use Rattle.pc_store.specs.Sets.{domains_of, IsNodeAt};
 ghost use Rattle.pc_conjunction.specs.declared.layer.Layer.{Layer};
-ghost use Rattle.pc_conjunction.specs.Meets.{IsBelow, Meets, MorePairs, in_node};
+ghost use Rattle.pc_conjunction.specs.Meets.{IsBelow, Meets, MorePairs, StandsAt, in_node};
 
 use indexmap::IndexSet;
 use pc_base::NoMemory;
@@ -20,13 +20,14 @@ pub(crate) struct Pair {
 }
 
 /// The place of the words of a pair, in a layer with so many places: a place that is there if the pair has all words or
-/// none of its place, else the place that it gets after them.
+/// none of its place, else the place that it gets after them. Where it has the place `near`, it is found without its hash.
 pub(crate) fn target(
     store: &Store,
     layer: u32,
     count: u32,
     pairs: &mut IndexSet<Pair>,
     pair: Pair,
+    near: u32,
 ) -> Result<u32, NoMemory>
     requires layer { layer ≤ length (domains_of store.now) }
     requires place { pair.place < count }
@@ -45,9 +46,25 @@ pub(crate) fn target(
     if store.same_set(set, store.full(layer)) {
         return Ok(pair.place);
     }
+    if stands_at(pairs, count, near, pair) {
+        return Ok(near);
+    }
     let (place, _) = pairs.insert_full(pair)?;
     if place > (u32::MAX - count) as usize {
         return Err(NoMemory);
     }
     Ok(place as u32 + count)
+}
+
+/// Whether a pair has a place of a layer, after so many places that are there.
+fn stands_at(pairs: &IndexSet<Pair>, count: u32, place: u32, pair: Pair) -> bool
+    ensures { IsTrue result ↔ StandsAt count pairs.now.keys place pair }
+{
+    if place < count {
+        return false;
+    }
+    match pairs.get_index((place - count) as usize) {
+        Some(other) => pair == *other,
+        None => false,
+    }
 }

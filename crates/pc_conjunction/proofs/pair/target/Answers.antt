@@ -1,9 +1,9 @@
-use Rattle.std.proofs.Common.{◌≡◌, ◌<◌, ◌∙◌, Some, inl, inr, sym, ap, subst, arith, length, slice_get}
+use Rattle.std.proofs.Common.{◌≡◌, ◌<◌, ◌-◌, ◌∙◌, Some, inl, inr, sym, ap, subst, arith, length, slice_get}
 use Rattle.std.proofs.lemmas.Bool.{both_ways}
 use Rattle.pc_diagram.specs.Words.{is_word}
 use Rattle.pc_store.specs.Sets.{domains_of, has, IsIdAt}
 use Rattle.pc_conjunction.specs.Places.{place_count}
-use Rattle.pc_conjunction.specs.Meets.{in_node}
+use Rattle.pc_conjunction.specs.Meets.{StandsAt, in_node}
 use Rattle.pc_conjunction.proofs.PlaceLemmas.{accepts_over}
 use Rattle.pc_conjunction.proofs.MeetLemmas.{more_pair, same_pair-is}
 use Rattle.pc_conjunction.proofs.TargetLemmas.{meets_none, none_at_empty, none_in_empty, meets_all, meets_pair, all_or_none_set}
@@ -26,6 +26,11 @@ returns-then-same_set-2-clause-meets c = λ layers below.
     let inside : c.args.pair.place < place_count layers = (let n = below.count_is in let lt = c.requires.place in omega arith) in
     meets_all c.args.store.now c.args.layer layers c.args.pairs.now.keys c.args.pair.place test inside
     (λ word there. ap (λ id. has c.args.store.now id word) (sym c.at-set.ensures.id) ∙ c.same_set-2.ensures.0 c.if-same_set-2.true word ∙ c.full.ensures.set word ∙ ap (λ d. is_word d word) (sym below.domains_are) ∙ accepts_over layers below.layered c.args.pair.place word there)
+
+pub returns-then-stands_at-clause-meets : goal.returns-then-stands_at-clause-meets
+returns-then-stands_at-clause-meets c = λ layers below.
+    let stands : StandsAt c.args.count c.args.pairs.now.keys c.args.near c.args.pair = c.stands_at.ensures.0 c.if-stands_at.true in
+    meets_pair c.args.store.now c.args.layer layers c.args.pairs.now.keys c.args.pair (c.args.near - c.args.count) c.args.near stands.is_there (let n = below.count_is in let after = stands.after in omega arith)
 
 pub returns-clause-meets : goal.returns-clause-meets
 returns-clause-meets c = λ layers below.
