@@ -5,7 +5,6 @@ pub mod Bodies
 pub mod RequestNext
 pub mod LegalScripts
 pub mod MadeCalls
-pub mod Places
 pub mod ScriptRun
 pub mod ScriptTexts
 pub mod ScriptTurns

@@ -1,31 +1,22 @@
 -- The calls of a shop with one caller, against the definition of a step.
-use Rattle.std.proofs.Common.{◌≡◌, ℕ, zero, suc, ◌==◌, Bool, true, false, cond, List, [], ◌∷◌, map, find, Option, Some, None, Ok, Err, option_map, slice_get, All, IfSome, refl, sym, subst, ap, ◌∙◌, arith}
-use Rattle.std.proofs.lemmas.Bool.Decides.{nat_tests}
-use Rattle.std.proofs.lemmas.List.Elements.{All-head, All-tail}
+use Rattle.std.proofs.Common.{◌≡◌, ℕ, zero, suc, Bool, List, [], ◌∷◌, map, find, Option, Some, None, Ok, Err, option_map, slice_get, All, IfSome, refl, sym, subst, ap, ◌∙◌}
 use Rattle.pc_file.specs.Limits.{Contents}
-use Rattle.pc_calls.specs.declared.outcome.Outcome.{Outcome}
 use Rattle.pc_calls.specs.declared.outcome.Outcome.TheVariants.{Done}
 use Rattle.pc_calls.specs.declared.call.Call.{Call}
 use Rattle.pc_calls.specs.Decision.{Decision}
 use Rattle.pc_calls.specs.Heads.{reply}
 use Rattle.pc_calls.specs.LocalReply.{local_call, no_session, reply_by, state_given}
 use Rattle.pc_calls.specs.Selection.{Selection, shown}
-use Rattle.pc_calls.specs.State.{OpenSession, State, numbered, file_of, is_session, session_of}
-use Rattle.pc_calls.specs.Step.{after, asking, change_first, with_selection}
+use Rattle.pc_calls.specs.State.{OpenSession, State, numbered, file_of, session_of}
+use Rattle.pc_calls.specs.Step.{after, with_selection}
 use Rattle.pc_calls.proofs.OthersLaws.{local_after, local_after_none, local_none, local_reply}
-use Rattle.pc_session.specs.Visit.{Visit, visit_after}
-use Rattle.pc_script.specs.declared.change.Change.{Change}
-use Rattle.pc_script.specs.declared.change.Change.TheVariants.{Choose, Retract, Bound, Unbound}
-use Rattle.pc_script.specs.Change.{change_call, changed}
+use Rattle.pc_session.specs.Visit.{Visit}
+use Rattle.pc_book.specs.declared.change.Change.{Change}
+use Rattle.pc_book.specs.declared.change.Change.TheVariants.{Choose, Retract, Bound, Unbound}
+use Rattle.pc_book.specs.Change.{change_call, changed}
 use Rattle.pc_script.specs.ShopState.{IsPinned, callers_by, on_shelf, owned, state_by}
-use Rattle.pc_script.specs.Visits.{has_number, plain_head, reply_at, reply_among, visit_reply, visits_after}
-
--- the session of a number, among those of the one caller
-find-owned : (number : ℕ) (visits : List Visit) → find (is_session 1 number) (map owned visits) ≡ option_map owned (find (has_number number) visits)
-find-owned number [] = refl
-find-owned number (visit ∷ visits) =
-    elim (visit.number == number) as (λ b. cond b (Some (owned visit)) (find (is_session 1 number) (map owned visits)) ≡ option_map owned (cond b (Some visit) (find (has_number number) visits)))
-    [ true ↦ refl | false ↦ find-owned number visits ]
+use Rattle.pc_book.proofs.VisitLemmas.{change-owned, find-owned, found-has, found-number, none-leaves, refused-leaves}
+use Rattle.pc_book.specs.Visits.{has_number, plain_head, reply_at, reply_among, visit_reply, visits_after}
 
 -- the file of a version on the shelf
 slice_get-shelf : (files : List Contents) (place : ℕ) → option_map (λ v. v.file) (slice_get (map on_shelf files) place) ≡ slice_get files place
@@ -37,78 +28,12 @@ numbered-shelf : (files : List Contents) (version : ℕ) → option_map (λ v. v
 numbered-shelf files zero = refl
 numbered-shelf files (suc place) = slice_get-shelf files place
 
--- what a test finds has what all have
-found-has : (P : Visit → Type 0) (test : Visit → Bool) (visits : List Visit) (visit : Visit) → All P visits → find test visits ≡ Some visit → P visit
-found-has P test [] visit all e = absurd cc
-found-has P test (v ∷ visits) visit all e =
-    (elim (test v) as (λ b. cond b (Some v) (find test visits) ≡ Some visit → P visit) [
-      | true ↦ λ is. let same : v ≡ visit = cc in subst P same (All-head P v visits all)
-      | false ↦ λ is. found-has P test visits visit (All-tail P v visits all) is
-    ]) e
-
--- the session found asks something else
-change-owned : (number : ℕ) (ask : Contents → Selection → Decision Selection) (visits : List Visit) (visit : Visit) (selection : Selection) → find (has_number number) visits ≡ Some visit → ask visit.file visit.selection ≡ Ok selection
-    → change_first (is_session 1 number) (asking selection) (map owned visits) ≡ map owned (visits_after number ask visits)
-change-owned number ask [] visit selection e given = refl
-change-owned number ask (v ∷ visits) visit selection e given =
-    (elim (v.number == number) as (λ b. cond b (Some v) (find (has_number number) visits) ≡ Some visit
-    → cond b (asking selection (owned v) ∷ map owned visits) (owned v ∷ change_first (is_session 1 number) (asking selection) (map owned visits)) ≡ map owned (cond b (visit_after v (ask v.file v.selection) ∷ visits) (v ∷ visits_after number ask visits))) [
-      | true ↦ λ is. let same : v ≡ visit = cc in
-          let gives : ask v.file v.selection ≡ Ok selection = ap (λ (w : Visit). ask w.file w.selection) same ∙ given in
-          ap (λ (g : Decision Selection). owned (visit_after v g) ∷ map owned visits) (sym gives)
-      | false ↦ λ is. ap (λ (ss : List OpenSession). owned v ∷ ss) (change-owned number ask visits visit selection is given)
-    ]) e
-
--- a refusal leaves the sessions
-refused-leaves : (number : ℕ) (ask : Contents → Selection → Decision Selection) (visits : List Visit) (visit : Visit) (refusal : Outcome) → find (has_number number) visits ≡ Some visit → ask visit.file visit.selection ≡ Err refusal → visits_after number ask visits ≡ visits
-refused-leaves number ask [] visit refusal e given = refl
-refused-leaves number ask (v ∷ visits) visit refusal e given =
-    (elim (v.number == number) as (λ b. cond b (Some v) (find (has_number number) visits) ≡ Some visit → cond b (visit_after v (ask v.file v.selection) ∷ visits) (v ∷ visits_after number ask visits) ≡ v ∷ visits) [
-      | true ↦ λ is. let same : v ≡ visit = cc in
-          let gives : ask v.file v.selection ≡ Err refusal = ap (λ (w : Visit). ask w.file w.selection) same ∙ given in
-          ap (λ (g : Decision Selection). visit_after v g ∷ visits) gives
-      | false ↦ λ is. ap (λ (vs : List Visit). v ∷ vs) (refused-leaves number ask visits visit refusal is given)
-    ]) e
-
--- no session of the number leaves them
-none-leaves : (number : ℕ) (ask : Contents → Selection → Decision Selection) (visits : List Visit) → find (has_number number) visits ≡ None → visits_after number ask visits ≡ visits
-none-leaves number ask [] e = refl
-none-leaves number ask (v ∷ visits) e =
-    (elim (v.number == number) as (λ b. cond b (Some v) (find (has_number number) visits) ≡ None → cond b (visit_after v (ask v.file v.selection) ∷ visits) (v ∷ visits_after number ask visits) ≡ v ∷ visits) [
-      | true ↦ λ is. absurd cc
-      | false ↦ λ is. ap (λ (vs : List Visit). v ∷ vs) (none-leaves number ask visits is)
-    ]) e
-
-number-after : (visit : Visit) (given : Decision Selection) → (visit_after visit given).number ≡ visit.number
-number-after visit (Ok selection) = refl
-number-after visit (Err refusal) = refl
-
--- the session found, after it asks something else
-find-after : (number : ℕ) (ask : Contents → Selection → Decision Selection) (visits : List Visit) (visit : Visit) → find (has_number number) visits ≡ Some visit → find (has_number number) (visits_after number ask visits) ≡ Some (visit_after visit (ask visit.file visit.selection))
-find-after number ask [] visit e = absurd cc
-find-after number ask (v ∷ visits) visit e =
-    (elim (v.number == number) as (λ b. (v.number == number) ≡ b → cond b (Some v) (find (has_number number) visits) ≡ Some visit
-    → find (has_number number) (cond b (visit_after v (ask v.file v.selection) ∷ visits) (v ∷ visits_after number ask visits)) ≡ Some (visit_after visit (ask visit.file visit.selection))) [
-      | true ↦ λ test is. let same : v ≡ visit = cc in
-          ap (λ (b : Bool). cond b (Some (visit_after v (ask v.file v.selection))) (find (has_number number) visits)) (ap (λ (n : ℕ). n == number) (number-after v (ask v.file v.selection)) ∙ test)
-          ∙ ap (λ (w : Visit). Some (visit_after w (ask w.file w.selection))) same
-      | false ↦ λ test is. ap (λ (b : Bool). cond b (Some v) (find (has_number number) (visits_after number ask visits))) test ∙ find-after number ask visits visit is
-    ]) refl e
-
-found-number : (number : ℕ) (visits : List Visit) (visit : Visit) → find (has_number number) visits ≡ Some visit → visit.number ≡ number
-found-number number [] visit e = absurd cc
-found-number number (v ∷ visits) visit e =
-    (elim (v.number == number) as (λ b. (v.number == number) ≡ b → cond b (Some v) (find (has_number number) visits) ≡ Some visit → visit.number ≡ number) [
-      | true ↦ λ test is. let same : v ≡ visit = cc in let n : v.number ≡ number = grind (arith, nat_tests, test) in ap (λ (w : Visit). w.number) (sym same) ∙ n
-      | false ↦ λ test is. found-number number visits visit is
-    ]) refl e
-
 module _ (files : List Contents) (entered left : Bool) (opened : ℕ) (visits : List Visit) where
   abbrev here : State
   here = state_by files entered left opened visits
 
   pub session-found : (number : ℕ) (found : Option Visit) → find (has_number number) visits ≡ found → session_of here 1 number ≡ option_map owned found
-  session-found number found e = find-owned number visits ∙ ap (option_map owned) e
+  session-found number found e = find-owned 1 number visits ∙ ap (option_map owned) e
 
   pub file-found : (visit : Visit) → IsPinned files visit → file_of here visit.version ≡ Some visit.file
   file-found visit pinned = numbered-shelf files visit.version ∙ pinned
@@ -123,7 +48,7 @@ module _ (files : List Contents) (entered left : Bool) (opened : ℕ) (visits : 
 
   -- the sessions after a call that is done are those after it
   is-later : (visit : Visit) (selection : Selection) → find (has_number number) visits ≡ Some visit → ask visit.file visit.selection ≡ Ok selection → with_selection 1 number selection before ≡ later_by
-  is-later visit selection e gives = ap (λ (ss : List OpenSession). record { versions = map on_shelf files; callers = callers_by entered left opened; sessions = ss }) (change-owned number ask visits visit selection e gives)
+  is-later visit selection e gives = ap (λ (ss : List OpenSession). record { versions = map on_shelf files; callers = callers_by entered left opened; sessions = ss }) (change-owned 1 number ask visits visit selection e gives)
 
   reply-at : (visit : Visit) (result : Decision Selection) → visit.number ≡ number → reply_by number visit.version visit.file result ≡ visit_reply visit result
   reply-at visit (Ok selection) same = ap (λ (n : ℕ). record { head = plain_head n visit.version Done; shown = Some (record { file = visit.file; listing = shown visit.file selection }) }) (sym same)

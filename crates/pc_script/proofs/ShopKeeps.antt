@@ -1,24 +1,17 @@
 -- What a shop keeps of its sessions and versions from call to call.
-use Rattle.std.proofs.Common.{◌≡◌, ℕ, zero, suc, ◌+◌, ◌-◌, ◌<◌, ◌≤◌, ◌==◌, Bool, true, false, cond, List, [], ◌∷◌, ◌++◌, length, Some, None, Ok, Err, slice_get, All, refl, sym, subst, ap, ◌∙◌, arith}
+use Rattle.std.proofs.Common.{◌≡◌, ℕ, zero, suc, ◌+◌, ◌-◌, ◌<◌, ◌≤◌, Bool, true, false, List, [], ◌∷◌, ◌++◌, length, Some, None, Ok, Err, slice_get, All, refl, sym, subst, ap, ◌∙◌, arith}
 use Rattle.std.specs.Prelude.{Result, IfOk, OnOk, OnErr}
 use Rattle.std.proofs.lemmas.List.{length-map, map-append}
 use Rattle.std.proofs.lemmas.List.Elements.{All-head, All-tail, All-nil, All-cons, All-append}
 use Rattle.pc_file.specs.Limits.{Contents}
 use Rattle.pc_calls.specs.Decision.{Decision}
-use Rattle.pc_calls.specs.Selection.{Selection, show}
+use Rattle.pc_calls.specs.Selection.{Selection}
 use Rattle.pc_calls.specs.State.{numbered}
 use Rattle.pc_session.specs.Visit.{Visit, visit_after}
 use Rattle.pc_build.specs.declared.version.Version as compiled
+use Rattle.pc_book.proofs.VisitLemmas.{kept-after}
 use Rattle.pc_script.specs.ShopState.{IsPinned, callers_by, files_of}
-use Rattle.pc_script.specs.Visits.{visits_after, without_number}
-
-kept-after : (P : Visit → Type 0) → ((visit : Visit) (result : Decision Selection) → P visit → P (visit_after visit result)) → (number : ℕ) (ask : Contents → Selection → Decision Selection) (visits : List Visit) → All P visits → All P (visits_after number ask visits)
-kept-after P keeps number ask [] all = all
-kept-after P keeps number ask (visit ∷ visits) all =
-    elim (visit.number == number) as (λ b. All P (cond b (visit_after visit (ask visit.file visit.selection) ∷ visits) (visit ∷ visits_after number ask visits))) [
-      | true ↦ All-cons P (visit_after visit (ask visit.file visit.selection)) visits (keeps visit (ask visit.file visit.selection) (All-head P visit visits all)) (All-tail P visit visits all)
-      | false ↦ All-cons P visit (visits_after number ask visits) (All-head P visit visits all) (kept-after P keeps number ask visits (All-tail P visit visits all))
-    ]
+use Rattle.pc_book.specs.Visits.{visits_after}
 
 pinned-visit : (files : List Contents) (visit : Visit) (result : Decision Selection) → IsPinned files visit → IsPinned files (visit_after visit result)
 pinned-visit files visit (Ok selection) pinned = pinned
@@ -33,14 +26,6 @@ pinned_after files number ask visits all = kept-after (IsPinned files) (pinned-v
 
 pub low_after : (opened number : ℕ) (ask : Contents → Selection → Decision Selection) (visits : List Visit) → All (λ v. v.number ≤ opened) visits → All (λ v. v.number ≤ opened) (visits_after number ask visits)
 low_after opened number ask visits all = kept-after (λ v. v.number ≤ opened) (low-visit opened) number ask visits all
-
-pub kept_without : (P : Visit → Type 0) (number : ℕ) (visits : List Visit) → All P visits → All P (without_number number visits)
-kept_without P number [] all = all
-kept_without P number (visit ∷ visits) all =
-    elim (visit.number == number) as (λ b. All P (cond b visits (visit ∷ without_number number visits))) [
-      | true ↦ All-tail P visit visits all
-      | false ↦ All-cons P visit (without_number number visits) (All-head P visit visits all) (kept_without P number visits (All-tail P visit visits all))
-    ]
 
 -- one more
 pub kept_push : {X : Type 0} (P : X → Type 0) (xs : List X) (x : X) → All P xs → P x → All P (xs ++ x ∷ [])
@@ -111,13 +96,6 @@ on_ok_to (Err error) f new later after h e = tt
 pub on_ok_is : {A E : Type 0} (result : Result A E) (P : Type 0) → P → OnOk result P
 on_ok_is (Ok x) P h = h
 on_ok_is (Err error) P h = tt
-
--- show leaves the sessions
-pub shown_leaves : (number : ℕ) (visits : List Visit) → visits_after number show visits ≡ visits
-shown_leaves number [] = refl
-shown_leaves number (visit ∷ visits) =
-    elim (visit.number == number) as (λ b. cond b (visit ∷ visits) (visit ∷ visits_after number show visits) ≡ visit ∷ visits)
-    [ true ↦ refl | false ↦ ap (λ (vs : List Visit). visit ∷ vs) (shown_leaves number visits) ]
 
 -- a caller that is told has entered
 pub is_inside : (entered left : Bool) (opened : ℕ) → length (callers_by entered left opened) ≡ 1 → entered ≡ true

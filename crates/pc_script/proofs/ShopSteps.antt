@@ -20,7 +20,7 @@ use Rattle.pc_calls.specs.State.{OpenSession, State, Version, current, live_vers
 use Rattle.pc_calls.specs.Step.{after, change_numbered, drop_first, step, state_of, with_opened}
 use Rattle.pc_session.specs.Visit.{Visit}
 use Rattle.pc_script.specs.ShopState.{IsPinned, callers_by, on_shelf, owned, state_by}
-use Rattle.pc_script.specs.Visits.{close_reply, has_number, plain_head, without_number}
+use Rattle.pc_book.specs.Visits.{close_reply, has_number, plain_head, without_number}
 use Rattle.pc_script.proofs.ShopCalls.{session-found, file-found}
 
 length-shelf : (files : List Contents) → length (map on_shelf files) ≡ length files

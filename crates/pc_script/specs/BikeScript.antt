@@ -8,7 +8,7 @@ use Rattle.pc_calls.specs.declared.outcome.Outcome.TheVariants.{Done}
 use Rattle.pc_conn.specs.declared.item.Item.{Item}
 use Rattle.pc_conn.specs.declared.item.Item.TheVariants as item
 use Rattle.pc_script.specs.declared.item.Said.{Said}
-use Rattle.pc_script.specs.Visits.{plain_head}
+use Rattle.pc_book.specs.Visits.{plain_head}
 
 -- the bike is published and opened, and a line has no command
 abbrev pub bike_script : List ℕ

@@ -1,5 +1,4 @@
 pub mod BikeScript
-pub mod Change
 pub mod EndBy
 pub mod Request
 pub mod Made
@@ -9,4 +8,3 @@ pub mod ScriptOutcome
 pub mod ShopState
 pub mod ShortScript
 pub mod Turns
-pub mod Visits

@@ -4,6 +4,7 @@ use Rattle.pc_file.specs.Contents.{Contents}
 use Rattle.pc_build.specs.declared.version.Version as compiled
 use Rattle.pc_calls.specs.State.{Caller, OpenSession, State, Version, numbered}
 use Rattle.pc_session.specs.Visit.{Visit}
+use Rattle.pc_book.specs.Own.{owned_by}
 
 -- the files of compiled versions
 abbrev pub files_of : List compiled.Version → List Contents
@@ -15,7 +16,7 @@ on_shelf file = record { file = file; live = true }
 
 -- a session of the one caller
 abbrev pub owned : Visit → OpenSession
-owned visit = record { owner = 1; number = visit.number; version = visit.version; selection = visit.selection }
+owned = owned_by 1
 
 -- the caller, once it has entered
 abbrev pub callers_by : Bool → Bool → ℕ → List Caller

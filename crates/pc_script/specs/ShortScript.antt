@@ -7,7 +7,7 @@ use Rattle.pc_calls.specs.declared.outcome.Outcome.{Outcome}
 use Rattle.pc_calls.specs.declared.outcome.Outcome.TheVariants.{Done, NoVersion}
 use Rattle.pc_conn.specs.declared.item.Item.TheVariants as item
 use Rattle.pc_script.specs.declared.item.Said.{Said}
-use Rattle.pc_script.specs.Visits.{plain_head}
+use Rattle.pc_book.specs.Visits.{plain_head}
 
 -- nothing was published, so nothing is opened, and `bogus` is no command
 abbrev pub short_script : List ℕ

@@ -2,8 +2,6 @@
 //! the text that the definition gives for the bytes that were read, and every end of a script says how far it came.
 #![tactic(auto)]
 
-mod change;
-mod guest;
 mod hearing;
 mod item;
 pub mod laws;

@@ -7,14 +7,13 @@ ghost use Rattle.pc_calls.specs.declared.call.Call.TheVariants.{Open, Show, Clos
 ghost use Rattle.pc_calls.specs.Heads.{reply};
 ghost use Rattle.pc_calls.specs.State.{State, empty, opened_by};
 ghost use Rattle.pc_calls.specs.Step.{after};
-ghost use Rattle.pc_script.specs.Change.{change_call};
+ghost use Rattle.pc_book.specs.Change.{change_call};
 ghost use Rattle.pc_script.specs.Request.{may_speak};
 ghost use Rattle.pc_script.specs.Made.{IsMadeCall};
 ghost use Rattle.pc_script.specs.Script.{entered};
 
-use crate::change::Change;
-use crate::guest::{Guest, plain_head, refused};
 use pc_base::{NoMemory, Sequence};
+use pc_book::{Change, Guest, plain_head, refused};
 use pc_build::{BuildFault, SharedVersion, Version, compile};
 use pc_calls::{Call, MOST_LIVE, MOST_SESSIONS, Outcome, Reply};
 use pc_file::SharedFile;

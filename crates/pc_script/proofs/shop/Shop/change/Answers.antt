@@ -1,9 +1,9 @@
 use Rattle.std.proofs.Common.{◌≤◌, All, sym, ap, ◌∙◌}
 use Rattle.pc_calls.specs.Heads.{reply}
 use Rattle.pc_calls.specs.Step.{after}
-use Rattle.pc_script.specs.Change.{change_call, changed}
+use Rattle.pc_book.specs.Change.{change_call, changed}
 use Rattle.pc_script.specs.ShopState.{IsPinned, files_of, state_by}
-use Rattle.pc_script.specs.Visits.{reply_among, visits_after}
+use Rattle.pc_book.specs.Visits.{reply_among, visits_after}
 use Rattle.pc_script.proofs.ShopCalls.{is_change, own_after, own_reply}
 use Rattle.pc_script.proofs.ShopKeeps.{either_kept, if_ok_to, low_after, on_ok_to, pinned_after}
 use Rattle.pc_script.proofs.shop.Shop.change.Goals as goal

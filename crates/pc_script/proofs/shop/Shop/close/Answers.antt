@@ -3,7 +3,7 @@ use Rattle.pc_calls.specs.declared.call.Call.TheVariants.{Close}
 use Rattle.pc_calls.specs.Heads.{reply}
 use Rattle.pc_calls.specs.Step.{after}
 use Rattle.pc_script.specs.ShopState.{IsPinned, files_of}
-use Rattle.pc_script.proofs.ShopKeeps.{kept_without}
+use Rattle.pc_book.proofs.VisitLemmas.{kept_without}
 use Rattle.pc_script.proofs.ShopSteps.{close_after_is, close_reply_is}
 use Rattle.pc_script.proofs.shop.Shop.close.Goals as goal
 

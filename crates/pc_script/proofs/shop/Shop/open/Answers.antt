@@ -7,7 +7,7 @@ use Rattle.pc_calls.specs.Selection.{free, shown}
 use Rattle.pc_calls.specs.Step.{after}
 use Rattle.pc_session.specs.Visit.{Visit}
 use Rattle.pc_script.specs.ShopState.{files_of, state_by}
-use Rattle.pc_script.specs.Visits.{plain_head}
+use Rattle.pc_book.specs.Visits.{plain_head}
 use Rattle.pc_script.proofs.ShopKeeps.{if_ok_to, is_inside, none_last, numbered_last, on_ok_two, open_keeps}
 use Rattle.pc_script.proofs.ShopSteps.{open_done, open_early, open_full}
 use Rattle.pc_script.proofs.shop.Shop.open.Goals as goal

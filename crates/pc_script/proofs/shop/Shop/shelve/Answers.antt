@@ -6,7 +6,7 @@ use Rattle.pc_calls.specs.declared.outcome.Outcome.TheVariants.{Done}
 use Rattle.pc_calls.specs.Heads.{reply}
 use Rattle.pc_calls.specs.Step.{after}
 use Rattle.pc_script.specs.ShopState.{files_of, state_by}
-use Rattle.pc_script.specs.Visits.{plain_head}
+use Rattle.pc_book.specs.Visits.{plain_head}
 use Rattle.pc_script.proofs.ShopKeeps.{files_more, pinned_more}
 use Rattle.pc_script.proofs.ShopSteps.{publish_done, publish_full}
 use Rattle.pc_script.proofs.shop.Shop.shelve.Goals as goal

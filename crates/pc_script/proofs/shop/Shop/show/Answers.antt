@@ -4,9 +4,10 @@ use Rattle.pc_calls.specs.Heads.{reply}
 use Rattle.pc_calls.specs.Selection.{show}
 use Rattle.pc_calls.specs.Step.{after}
 use Rattle.pc_script.specs.ShopState.{files_of, state_by}
-use Rattle.pc_script.specs.Visits.{reply_among}
+use Rattle.pc_book.specs.Visits.{reply_among}
 use Rattle.pc_script.proofs.ShopCalls.{own_after, own_reply}
-use Rattle.pc_script.proofs.ShopKeeps.{if_ok_to, on_ok_is, shown_leaves}
+use Rattle.pc_book.proofs.VisitLemmas.{shown_leaves}
+use Rattle.pc_script.proofs.ShopKeeps.{if_ok_to, on_ok_is}
 use Rattle.pc_script.proofs.shop.Shop.show.Goals as goal
 
 pub returns-clause-reply : goal.returns-clause-reply

@@ -1,8 +1,8 @@
 use Rattle.std.proofs.Common.{sym, ap, ◌∙◌, None}
 use Rattle.pc_calls.specs.declared.outcome.Outcome.TheVariants.{Done}
-use Rattle.pc_script.specs.Visits.{close_reply, plain_head}
-use Rattle.pc_script.proofs.Places.{no_place, at_place}
-use Rattle.pc_script.proofs.guest.Guest.close.Goals as goal
+use Rattle.pc_book.specs.Visits.{close_reply, plain_head}
+use Rattle.pc_book.proofs.Places.{no_place, at_place}
+use Rattle.pc_book.proofs.guest.Guest.close.Goals as goal
 
 pub returns-in_default-clause-reply : goal.returns-in_default-clause-reply
 returns-in_default-clause-reply c =

@@ -1,18 +1,18 @@
-//! A caller's open sessions.
+//! The open sessions of one caller.
 
 ghost use Rattle.std.specs.Prelude.{◌≡◌, ◌==◌, ◌<◌, ◌≤◌, ◌+◌, ◌^◌, ◌++◌, ◌∷◌, [], not, filter, length, position, find, IfOk, OnOk, OnErr, IfSome, Some, None, Ok, Err};
 ghost use Rattle.pc_calls.specs.declared.outcome.Outcome.TheVariants.{Done};
 ghost use Rattle.pc_calls.specs.Selection.{free, show, shown};
 ghost use Rattle.pc_session.specs.Visit.{session_answer, visit_after};
-ghost use Rattle.pc_script.specs.Change.{changed};
-ghost use Rattle.pc_script.specs.Visits.{has_number, no_session_reply, plain_head, close_reply, reply_among, shown_with, visits_after, without_number};
+ghost use Rattle.pc_book.specs.Change.{changed};
+ghost use Rattle.pc_book.specs.Visits.{has_number, plain_head, close_reply, reply_among, visits_after, without_number};
 
 use crate::change::Change;
-use pc_base::{NoMemory, Sequence};
+use crate::replying::{plain_head, refused, replied};
+use pc_base::NoMemory;
 use pc_build::SharedVersion;
-use pc_calls::{Head, Outcome, Reply, Shown};
-use pc_diagram::{Listing, Steps};
-use pc_file::SharedFile;
+use pc_calls::{Outcome, Reply, Shown};
+use pc_diagram::Steps;
 use pc_session::{Answer, Session};
 use std::alloc::Global;
 use std::marker::Brand;
@@ -24,50 +24,6 @@ pub struct Guest {
     pub alloc: Global,
     pub opened: u64,
     pub sessions: Vec<Session>,
-}
-
-/// A head that lists nothing.
-pub fn plain_head(alloc: Global, session: u64, version: u64, outcome: Outcome) -> Head
-    ensures { result ≡ plain_head session version outcome }
-{
-    Head {
-        session,
-        version,
-        outcome,
-        live: Sequence::new(alloc),
-        dropped: Sequence::new(alloc),
-    }
-}
-
-/// The reply to a call that was refused.
-pub fn refused(alloc: Global, session: u64, version: u64, refusal: Outcome) -> Reply
-    ensures { result ≡ record { head = plain_head session version refusal; shown = None } }
-{
-    Reply {
-        head: plain_head(alloc, session, version, refusal),
-        shown: None,
-    }
-}
-
-/// A file with a listing, where there is one.
-fn shown_with(file: SharedFile, listing: Option<Listing>) -> Option<Shown>
-    ensures { result ≡ shown_with file listing }
-{
-    match listing {
-        Some(listing) => Some(Shown { file, listing }),
-        None => None,
-    }
-}
-
-/// The reply to what a session with this file answered.
-fn replied(alloc: Global, session: &Session, file: SharedFile, answer: Answer) -> Reply
-    requires { file ≡ session.now.file }
-    ensures { result ≡ record { head = plain_head session.now.number session.now.version answer.outcome; shown = shown_with session.now.file answer.listing } }
-{
-    Reply {
-        head: plain_head(alloc, session.number(), session.version(), answer.outcome),
-        shown: shown_with(file, answer.listing),
-    }
 }
 
 /// Where the session of a number stands.

@@ -1,8 +1,8 @@
 use Rattle.std.proofs.Common.{refl, sym, ap, ◌∙◌, Some}
 use Rattle.pc_calls.specs.Selection.{show}
-use Rattle.pc_script.specs.Visits.{reply_at}
-use Rattle.pc_script.proofs.Places.{no_place, at_place, session_reply}
-use Rattle.pc_script.proofs.guest.Guest.show.Goals as goal
+use Rattle.pc_book.specs.Visits.{reply_at}
+use Rattle.pc_book.proofs.Places.{no_place, at_place, session_reply}
+use Rattle.pc_book.proofs.guest.Guest.show.Goals as goal
 
 pub returns-in_default : goal.returns-in_default
 returns-in_default c =

@@ -1,8 +1,8 @@
 use Rattle.std.proofs.Common.{sym, ap, ◌∙◌, slice_set}
-use Rattle.pc_script.specs.Change.{changed}
-use Rattle.pc_script.specs.Visits.{reply_at}
-use Rattle.pc_script.proofs.Places.{no_place, at_place, session_reply}
-use Rattle.pc_script.proofs.guest.Guest.change.Goals as goal
+use Rattle.pc_book.specs.Change.{changed}
+use Rattle.pc_book.specs.Visits.{reply_at}
+use Rattle.pc_book.proofs.Places.{no_place, at_place, session_reply}
+use Rattle.pc_book.proofs.guest.Guest.change.Goals as goal
 
 pub returns-in_default-clause-reply : goal.returns-in_default-clause-reply
 returns-in_default-clause-reply c =

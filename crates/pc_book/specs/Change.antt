@@ -5,8 +5,8 @@ use Rattle.pc_calls.specs.declared.call.Call.{Call}
 use Rattle.pc_calls.specs.declared.call.Call.TheVariants as call
 use Rattle.pc_calls.specs.Decision.{Decision}
 use Rattle.pc_calls.specs.Selection.{Selection, bound, choose, retract, unbound}
-use Rattle.pc_script.specs.declared.change.Change.{Change}
-use Rattle.pc_script.specs.declared.change.Change.TheVariants.{Choose, Retract, Bound, Unbound}
+use Rattle.pc_book.specs.declared.change.Change.{Change}
+use Rattle.pc_book.specs.declared.change.Change.TheVariants.{Choose, Retract, Bound, Unbound}
 
 -- what is asked after a change, or the refusal
 abbrev pub changed : Change → Contents → Selection → Decision Selection
