@@ -1,13 +1,12 @@
--- Sessions may go to other threads, and be shared.
-use denote.Struct.Declared.{shape}
-use denote.Struct.Field.{u64-field}
-use denote.Param.Send.{IsSend, IsSync, sendable, view_send, view_sync, recorded_send, recorded_sync, struct_send, struct_sync}
+-- Sessions, and what their moves give, may go to other threads, and be shared.
+use denote.Param.Send.{IsSend, IsSync, sendable}
 use Rattle.std.proofs.Crossing.{crosses}
 use Rattle.pc_labels.specs.contracts.labels.Labels as labels_type
 use Rattle.pc_pareto.specs.contracts.fronts.Fronts as fronts_type
 use Rattle.pc_build.specs.contracts.shared_version.SharedVersion as version_type
 use Rattle.pc_domains.specs.contracts.board.Board as board_type
 use Rattle.pc_calls.proofs.Crossing.{shared_send, shared_sync}
+use Rattle.pc_session.specs.contracts.rebased.Rebased as rebased_type
 use Rattle.pc_session.specs.contracts.session.Session as session_type
 
 fronts_send : IsSend fronts_type.the_row
@@ -39,3 +38,9 @@ session_send = search (version_send, board_send, crosses, sendable) depth 40 fit
 
 pub session_sync : IsSync session_type.the_row
 session_sync = search (version_sync, board_sync, crosses, sendable) depth 40 fits 20000
+
+pub rebased_send : IsSend (rebased_type.the_field).row
+rebased_send = search (session_send, crosses, sendable) depth 60 fits 20000
+
+pub rebased_sync : IsSync (rebased_type.the_field).row
+rebased_sync = search (session_sync, crosses, sendable) depth 60 fits 20000

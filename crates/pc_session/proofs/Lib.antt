@@ -1,5 +1,9 @@
+pub mod BoundLemmas
+pub mod CarryLemmas
 pub mod Crossing
 pub mod Limits
 pub mod ListedLemmas
+pub mod MovingLemmas
 pub mod NextLemmas
+pub mod ReplayLemmas
 pub mod SlotLemmas

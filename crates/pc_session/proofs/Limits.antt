@@ -1,5 +1,5 @@
 -- Where the fronts of a version's diagram have too many pairs, the words of its file tell.
-use Rattle.std.proofs.Common.{◌≡◌, ℕ, ℤ, nat_eq, Bool, List, length, Option, None, Some, option_map, refl, sym, ap, ◌∙◌}
+use Rattle.std.proofs.Common.{◌≡◌, ℕ, ℤ, nat_eq, List, length, Option, None, Some, option_map, refl, sym, ap, ◌∙◌}
 use Rattle.std.specs.Cmp.Lexicographic.{pointwise}
 use Rattle.std.specs.List.{list_any}
 use Rattle.std.specs.Option.{option_or}
@@ -14,7 +14,7 @@ use Rattle.pc_diagram.specs.Diagram.{IsCanonical}
 use Rattle.pc_diagram.specs.Paths.{has_word, words}
 use Rattle.pc_diagram.proofs.EqualWords.{word_accepted}
 use Rattle.pc_pareto.specs.declared.limits.TheConstants.{MOST_LABELS}
-use Rattle.pc_pareto.specs.Fronts.{layer_at, limit_at}
+use Rattle.pc_pareto.specs.Fronts.{layer_at}
 use Rattle.pc_pareto.specs.WordFronts.{word_limit_at}
 use Rattle.pc_pareto.proofs.WordFrontLemmas.{limits_agree}
 use Rattle.pc_file.specs.Contents.{Contents}

@@ -1,5 +1,5 @@
 -- What a session's call comes to is what the definitions give.
-use Rattle.std.proofs.Common.{◌≡◌, ◌≢◌, ℕ, ℤ, ◌+◌, ◌==◌, ◌<◌, List, [], ◌∷◌, ◌++◌, length, map, get_or, Option, Some, None, is_some, Bool, true, false, not, if◌then◌else◌, refl, sym, subst, ap, ◌∙◌, arith}
+use Rattle.std.proofs.Common.{◌≡◌, ◌≢◌, ℕ, ℤ, ◌==◌, ◌<◌, List, [], ◌∷◌, ◌++◌, length, map, get_or, Option, Some, None, is_some, Bool, true, false, not, if◌then◌else◌, refl, sym, subst, ap, ◌∙◌, arith}
 use Rattle.std.specs.Prelude.{Result, Ok, Err, IfOk, unwrap_or, pos}
 use Rattle.std.proofs.lemmas.Bool.Decides.{nat_tests}
 use Rattle.std.proofs.lemmas.List.{get_or-map, length-map}
@@ -16,12 +16,8 @@ use Rattle.pc_diagram.specs.Fitting.{fitting}
 use Rattle.pc_diagram.specs.Least.{least_cost}
 use Rattle.pc_diagram.specs.Listing.{listing, value_count}
 use Rattle.pc_diagram.specs.Paths.{words}
-use Rattle.pc_file.specs.Contents.{Contents}
-use Rattle.pc_file.specs.Costs.{costs_of, file_listing}
-use Rattle.pc_file.specs.Full.{full, full_domains}
 use Rattle.pc_build.specs.declared.version.Version.{Version}
 use Rattle.pc_build.proofs.VersionLemmas.{listing_of_version}
-use Rattle.pc_calls.specs.declared.outcome.Outcome.{Outcome}
 use Rattle.pc_calls.specs.declared.outcome.Outcome.TheVariants as outcome
 use Rattle.pc_calls.specs.Decision.{Decision, ◌>>=◌, ◌>>◌, refused_by, refused_where}
 use Rattle.pc_calls.specs.LabelLimit.{label_limit}
@@ -33,7 +29,6 @@ use Rattle.pc_domains.specs.BoardFaults.{IsBoardFault}
 use Rattle.pc_domains.specs.Boards.{IsBoardOf}
 use Rattle.pc_domains.specs.LabelLimits.{limit_under}
 use Rattle.pc_domains.specs.Sides.{listed_of}
-use Rattle.pc_session.specs.declared.answer.Answer.{Answer}
 use Rattle.pc_session.specs.declared.next.Next.{Next}
 use Rattle.pc_session.specs.declared.next.Next.TheVariants.{Same, Moved, Refused}
 use Rattle.pc_session.specs.Next.{IsLimitOf, IsMovedTo, IsNext, answer_by, asked_by, board_by}
@@ -46,7 +41,7 @@ abbrev ok : Selection → Decision Selection
 ok asked = Ok asked
 
 -- what is asked stands where there is no limit
-limited_by : (limit : Option (Side × ℕ)) (asked : Selection) → limit ≡ None → (refused_by limit (λ l. outcome.LabelLimit l.0 l.1) >> ok asked) ≡ Ok asked
+pub limited_by : (limit : Option (Side × ℕ)) (asked : Selection) → limit ≡ None → (refused_by limit (λ l. outcome.LabelLimit l.0 l.1) >> ok asked) ≡ Ok asked
 limited_by None asked h = refl
 limited_by (Some l) asked h = absurd cc
 
@@ -67,7 +62,7 @@ module _ (version : Version) where
   shows_all board (Ok rows) h = shows board rows h
   shows_all board (Err e) h = tt
 
-  limit_is : IsCanonical version.diagram → (choices : List Choice) (bounds : Bounds) → limit_under version.diagram version.costs choices bounds.second ≡ label_limit version.file choices bounds
+  pub limit_is : IsCanonical version.diagram → (choices : List Choice) (bounds : Bounds) → limit_under version.diagram version.costs choices bounds.second ≡ label_limit version.file choices bounds
   limit_is canonical = limit_of_file version.file version.diagram canonical version.domains version.words version.costs version.priced
 
   -- no limit stands of what a board asks
@@ -154,6 +149,14 @@ module _ (version : Version) where
   pub none_fits : (asked : Selection) → fitting version.costs (words version.diagram) asked.choices asked.bounds ≡ [] → fitting_words version.file asked ≡ []
   none_fits asked h = sym (fitting_is asked.choices asked.bounds) ∙ h
 
+  -- some word fits what a board asks
+  pub some_fit : (board : Board) → IsBoardOf version.diagram version.costs board → (length (fitting_words version.file (asked_by board)) == 0) ≡ false
+  some_fit board is = some_length (fitting_words version.file (asked_by board)) (λ e. is.fits (fitting_is board.choices board.bounds ∙ e))
+    where
+      some_length : (l : List (List ℕ)) → l ≢ [] → (length l == 0) ≡ false
+      some_length [] h = absurd (h refl)
+      some_length (x ∷ xs) h = grind (arith, nat_tests)
+
   pub no_limit : IsCanonical version.diagram → (asked : Selection) → limit_under version.diagram version.costs asked.choices asked.bounds.second ≡ None → label_limit version.file asked.choices asked.bounds ≡ None
   no_limit canonical asked h = sym (limit_is canonical asked.choices asked.bounds) ∙ h
 
@@ -162,14 +165,7 @@ module _ (version : Version) where
   bound_moves before which most board is asked =
       ap (λ d. d >>= (λ (s : Selection). refused_where (length (fitting_words version.file s) == 0) (outcome.TooTight (least_fitting which version.file (with_bound which None before))) >> ok s))
       (subst (λ s. unless_limited version.file s ≡ Ok (asked_by board)) asked (asked_stands board is))
-      ∙ ap (λ b. refused_where b (outcome.TooTight (least_fitting which version.file (with_bound which None before))) >> ok (asked_by board)) some
-    where
-      some_length : (l : List (List ℕ)) → l ≢ [] → (length l == 0) ≡ false
-      some_length [] h = absurd (h refl)
-      some_length (x ∷ xs) h = grind (arith, nat_tests)
-
-      some : (length (fitting_words version.file (asked_by board)) == 0) ≡ false
-      some = some_length (fitting_words version.file (asked_by board)) (λ e. is.fits (fitting_is board.choices board.bounds ∙ e))
+      ∙ ap (λ b. refused_where b (outcome.TooTight (least_fitting which version.file (with_bound which None before))) >> ok (asked_by board)) (some_fit board is)
 
   pub bound_limited : (before : Selection) (which : Which) (most : ℤ) (side : Side) (layer : ℕ) → unless_limited version.file (with_bound which (Some most) before) ≡ Err (outcome.LabelLimit side layer) → bound_at which most version.file before ≡ Err (outcome.LabelLimit side layer)
   unfolding bound_at

@@ -1,10 +1,9 @@
 -- How many slots the diagram of a file has, said over its words: one for each value of a variable and each of the different
 -- ways in which words go on at it.
-use Rattle.std.specs.Prelude.{ℕ, zero, suc, ◌+◌, ◌*◌, length, take, drop, slice_index, List, Option, Some, None}
+use Rattle.std.specs.Prelude.{ℕ, zero, suc, ◌+◌, ◌*◌, length, take, drop, slice_index, Option, Some, None}
 use Rattle.pc_diagram.specs.Rests.{rest_count}
 use Rattle.pc_file.specs.Contents.{Contents}
 use Rattle.pc_file.specs.Full.{full_domains, is_full}
-use Rattle.pc_file.specs.Positions.{variable_named}
 
 -- of one variable
 unfoldable pub slots_at : Contents → ℕ → ℕ

@@ -1,7 +1,8 @@
 //! The boards of sessions.
 
-ghost use Rattle.std.specs.Prelude.{◌≡◌, ◌<◌, ◌≤◌, ◌+◌, length, IfOk};
+ghost use Rattle.std.specs.Prelude.{◌≡◌, ◌≤◌, ◌+◌, length, IfOk};
 ghost use Rattle.pc_calls.specs.Selection.{free, shown};
+ghost use Rattle.pc_diagram.specs.Diagram.{IsCanonical};
 ghost use Rattle.pc_domains.specs.Boards.{IsBoardOf};
 ghost use Rattle.pc_domains.specs.Slots.{slots_before};
 ghost use Rattle.pc_session.specs.Next.{asked_by};
@@ -11,24 +12,27 @@ use pc_build::Version;
 use pc_diagram::{Bounds, Choices, Listing, Steps};
 use pc_domains::Board;
 use std::alloc::Global;
-use std::sync::ledger::{Blank, Ledger};
+use std::sync::ledger::Ledger;
+
+/// What every version keeps, told of this one: its diagram is canonical. It does nothing at run time.
+pub(crate) fn canonical_of(version: &Version)
+    ensures { IsCanonical version.now.diagram }
+{
+    let _ = version.diagram.domains();
+}
 
 /// The board of a version without choices and bounds.
 pub(crate) fn free_board<L: Ledger>(
     alloc: Global,
     version: &Version,
-    blank: Blank,
+    steps: &mut Steps<L>,
 ) -> Result<Board, NoMemory>
-    requires name { blank.name ≡ L.name }
-    requires parts { blank.parts ≡ L.parts }
-    requires some { 0 < blank.parts }
     ensures board { IfOk result (IsBoardOf version.now.diagram version.now.costs) }
     ensures free { IfOk result (λ board. asked_by board ≡ free) }
 {
-    let mut steps = Steps::<L>::new(blank);
     let choices = Choices::new(alloc);
     let (diagram, costs) = (&version.diagram, &version.costs);
-    match Board::new(alloc, diagram, costs, &choices, &Bounds::none(), &mut steps) {
+    match Board::new(alloc, diagram, costs, &choices, &Bounds::none(), steps) {
         Ok(board) => Ok(board),
         // Without bounds there is no limit, and every word of the version fits.
         Err(_) => Err(NoMemory),

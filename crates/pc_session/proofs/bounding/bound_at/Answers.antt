@@ -1,10 +1,8 @@
 -- The board with the bound follows, or its limit, or that no word fits.
-use Rattle.std.proofs.Common.{rules, ◌≡◌, [], Some, None, sym, subst, ap, ◌∙◌, of_z, to_z, w64}
+use Rattle.std.proofs.Common.{rules, ◌≡◌, [], Some, None, subst, ap, ◌∙◌, of_z, to_z, w64}
 use Rattle.pc_diagram.specs.declared.bounds.Bounds.{Bounds}
 use Rattle.pc_diagram.specs.Bounds.{with_bound_on}
 use Rattle.pc_calls.specs.Selection.{Selection, bound_at, with_bound}
-use Rattle.pc_domains.specs.declared.board_fault.BoardFault.{BoardFault}
-use Rattle.pc_domains.specs.declared.board_fault.BoardFault.TheVariants.{NoFit}
 use Rattle.pc_diagram.specs.Fitting.{fitting}
 use Rattle.pc_diagram.specs.Paths.{words}
 use Rattle.pc_domains.specs.BoardFaults.{IsBoardFault}

@@ -1,5 +1,5 @@
 -- The least of the cost without the bound is told.
-use Rattle.std.proofs.Common.{rules, ◌≡◌, None, sym, ap, ◌∙◌, of_z, to_z, w64}
+use Rattle.std.proofs.Common.{rules, ◌≡◌, ap, ◌∙◌, of_z, to_z, w64}
 use Rattle.pc_diagram.specs.declared.bounds.Bounds.{Bounds}
 use Rattle.pc_diagram.specs.Fitting.{fitting}
 use Rattle.pc_diagram.specs.Least.{least_cost}

@@ -1,5 +1,5 @@
 -- The cost has a bound or not, and the board without it follows.
-use Rattle.std.proofs.Common.{None, not, sym, ap, ◌∙◌}
+use Rattle.std.proofs.Common.{None, sym, ap, ◌∙◌}
 use Rattle.std.specs.Option.{is_some}
 use Rattle.pc_calls.specs.Selection.{Selection, unbound_at, with_bound}
 use Rattle.pc_session.specs.Next.{asked_by}

@@ -1,5 +1,5 @@
 -- The slots of the diagram are those of the file's words.
-use Rattle.std.proofs.Common.{Some, ap, ◌∙◌}
+use Rattle.std.proofs.Common.{ap, ◌∙◌}
 use Rattle.pc_file.specs.Contents.{Contents}
 use Rattle.pc_file.specs.Positions.{variable_named}
 use Rattle.pc_session.proofs.SlotLemmas.{choose_within, named_inside}
