@@ -10,6 +10,7 @@ pub mod SameLemmas
 pub mod SpanLemmas
 pub mod TablesLemmas
 pub mod TrieLemmas
+pub mod RestLemmas
 pub mod WordLemmas
 pub mod FaultLemmas
 pub mod MakingLemmas

@@ -18,6 +18,7 @@ mod one_of;
 mod over_subrules;
 mod parts;
 mod products;
+mod rests;
 mod rules;
 mod same;
 mod shared_version;

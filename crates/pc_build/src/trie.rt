@@ -7,6 +7,7 @@ ghost use Rattle.pc_build.specs.Demands.{is_open, some_meets};
 
 use crate::chain::lengthen;
 use crate::demand::Demand;
+use crate::rests::{rests_after, rests_by_value};
 use pc_base::{NoMemory, Sequence};
 use pc_store::{Id, Store};
 
@@ -36,10 +37,11 @@ pub(crate) fn meeting_some(
         let below = meeting_some(store, layer + 1, rest.as_slice())?;
         return lengthen(store, layer, below);
     }
+    let rests = rests_by_value(store.allocator(), rows, store.domain(layer))?;
     let mut children = Vec::new(store.allocator());
     for value in 0..store.domain(layer) {
-        let rest = rests_after(store, rows, value)?;
-        children.push(meeting_some(store, layer + 1, rest.as_slice())?)?;
+        let rest = rests[value as usize].as_slice();
+        children.push(meeting_some(store, layer + 1, rest)?)?;
     }
     store.node(layer, children.as_slice())
 }
@@ -75,43 +77,5 @@ fn is_free(row: &[Demand]) -> bool
     match row {
         [] => true,
         [first, ..] => first.is_any(),
-    }
-}
-
-/// Whether a row allows a value of the first variable.
-fn is_open(row: &[Demand], value: u32) -> bool
-    ensures { result ≡ is_open row.now value }
-{
-    match row {
-        [] => true,
-        [first, ..] => first.allows(value),
-    }
-}
-
-/// What the rows that allow a value of the first variable demand of those after it.
-fn rests_after(
-    store: &Store,
-    rows: &[Sequence<Demand>],
-    value: u32,
-) -> Result<Sequence<Sequence<Demand>>, NoMemory>
-    ensures { IfOk result (λ rests. (word : List ℕ) → some_meets rests word ≡ some_meets rows.now (value ∷ word)) }
-{
-    let alloc = store.allocator();
-    let mut rests = Sequence::new(alloc);
-    for row in rows {
-        if is_open(row.as_slice(), value) {
-            rests.push(Sequence::from_slice(alloc, rest_of(row.as_slice()))?)?;
-        }
-    }
-    Ok(rests)
-}
-
-/// What a row demands of the variables after the first.
-fn rest_of(row: &[Demand]) -> &[Demand]
-    ensures { result.now ≡ drop 1 row.now }
-{
-    match row {
-        [] => row,
-        [_, rest @ ..] => rest,
     }
 }

@@ -1,8 +1,7 @@
 -- The version is made of the diagram of the file's products and of its costs.
-use Rattle.std.proofs.Common.{◌≡◌, List, ◌∙◌, subst, ap}
+use Rattle.std.proofs.Common.{◌≡◌, ◌∙◌, subst, ap}
 use Rattle.std.proofs.lemmas.Result.{err_from_is_err_and}
 use Rattle.pc_file.specs.Contents.{Contents}
-use Rattle.pc_file.specs.declared.variable.Variable.{Variable}
 use Rattle.pc_file.specs.Costs.{costs_of}
 use Rattle.pc_file.specs.Full.{full_domains, full}
 use Rattle.pc_file.specs.Limits.{IsFile}

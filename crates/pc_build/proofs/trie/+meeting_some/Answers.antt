@@ -1,4 +1,5 @@
-use Rattle.std.proofs.Common.{◌∷◌, ◌≡◌, ◌<◌, ◌+◌, ◌&&◌, ℕ, List, true, ◌∙◌, length, get_or, drop, All, ap, sym, subst, arith}
+use Rattle.std.proofs.Common.{[], ◌∷◌, ◌≡◌, ◌<◌, ◌+◌, ◌&&◌, ℕ, List, true, ◌∙◌, length, get_or, drop, All, ap, sym, subst, arith}
+use Rattle.std.proofs.lemmas.List.{get_or_default}
 use Rattle.pc_diagram.specs.Words.{is_word}
 use Rattle.pc_store.specs.declared.id.Id.{Id}
 use Rattle.pc_store.specs.Sets.{domains_of, IsIdAt, has, leads}
@@ -81,9 +82,18 @@ loop-value-preserved t c =
     let rows = c.args.rows.now in
     let id = c.in_ok-meeting_some.field-0 in
     let children : List Id = c.loop-value.children.items in
+    let value = c.loop-value.value in
+    let rests : List (List (List Demand)) = c.in_ok-rests.rests.items in
+    let lower = c.loop-value-test.true in
+    let count = c.domain.ensures.domain in
+    let again = c.domain-value-end.ensures.domain in
+    let wide = c.in_ok-rests.ensures.width in
+    let within : value < c.domain.result = omega arith in
+    let inside : value < length rests = omega arith in
+    let rest : c.as_slice-rest.result.now ≡ get_or rests value [] = c.as_slice-rest.ensures ∙ c.index.ensures ∙ sym (get_or_default rests value [] c.index.result.now inside) in
     let words = λ (word : List ℕ).
     c.in_ok-meeting_some.ensures.set word
-    ∙ ap (λ b. is_word (drop (layer + 1) (domains_of mid)) word && b) (ap (λ (rs : List (List Demand)). some_meets rs word) c.as_slice-in-loop-value.ensures ∙ c.in_ok-rest-2.ensures word) in
+    ∙ ap (λ b. is_word (drop (layer + 1) (domains_of mid)) word && b) (ap (λ (rs : List (List Demand)). some_meets rs word) rest ∙ c.in_ok-rests.ensures.goes value word within) in
     subst (RestBranches old now layer rows (c.loop-value.value + 1)) (sym {A = List Id} c.in_ok-push.ensures.items)
     (branches_more old mid now (layer + 1) (λ value word. some_meets rows (value ∷ word)) c.loop-value.value children id c.loop-value.invariant c.in_ok-meeting_some.ensures.keeps c.in_ok-meeting_some.ensures.is_id words)
 

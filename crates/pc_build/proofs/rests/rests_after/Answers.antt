@@ -2,8 +2,8 @@ use Rattle.std.proofs.Common.{◌≡◌, ◌++◌, ◌∷◌, [], drop, true, fa
 use Rattle.pc_build.specs.declared.demand.Demand.{Demand}
 use Rattle.pc_build.specs.Demands.{is_open, some_meets}
 use Rattle.pc_build.proofs.TrieLemmas.{rests_more, rests_same}
-use Rattle.pc_build.proofs.trie.rests_after.Goals as goal
-use Rattle.pc_build.proofs.trie.rests_after.Goals.{then-is_open+in_ok-from_slice+in_ok-push, else-is_open}
+use Rattle.pc_build.proofs.rests.rests_after.Goals as goal
+use Rattle.pc_build.proofs.rests.rests_after.Goals.{then-is_open+in_ok-from_slice+in_ok-push, else-is_open}
 
 pub loop-row-preserved : goal.loop-row-preserved
 loop-row-preserved c = λ word.
