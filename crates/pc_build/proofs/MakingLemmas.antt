@@ -1,5 +1,5 @@
 -- Sets that were made, one after another.
-use Rattle.std.proofs.Common.{◌≡◌, ℕ, suc, ◌+◌, ◌<◌, ◌≤◌, nat_lt, drop, Bool, true, false, ◌&&◌, ◌||◌, List, [], ◌∷◌, ◌++◌, length, take, get_or, slice_get, Some, inl, inr, refl, sym, ap, ◌∙◌, subst, arith, append_assoc, length-append}
+use Rattle.std.proofs.Common.{◌≡◌, ℕ, suc, ◌+◌, ◌<◌, ◌≤◌, nat_lt, drop, Bool, true, false, ◌&&◌, ◌||◌, List, [], ◌∷◌, ◌++◌, length, take, get_or, slice_get, Some, inl, inr, refl, sym, ap, ◌∙◌, subst, arith, append_assoc, length-append, IsTrue, ◌↔◌, true≢false}
 use Rattle.std.specs.List.{list_any, flat_map}
 use Rattle.std.proofs.lemmas.List.{append-nil, take_more, take-append-le, take-append-drop, length_push}
 use Rattle.std.proofs.lemmas.List.Folds.{list_any-append}
@@ -50,6 +50,14 @@ made_here store set test n made now d e small count = record {
   where
     by : (size n : ℕ) → n ≡ size → n ≤ MOST_NODES → nat_lt MOST_NODES size ≡ false
     by size n e small = grind (arith, nat_tests)
+
+-- what a test of a size tells
+pub size_above : (small : Bool) (n most : ℕ) → (IsTrue small ↔ (n ≤ most)) → small ≡ false → most < n
+size_above small n most h e = by (nat_lt most n) refl
+  where
+    by : (b : Bool) → nat_lt most n ≡ b → most < n
+    by true more = grind (arith, nat_tests)
+    by false few = let le : n ≤ most = grind (arith, nat_tests) in absurd (true≢false (sym (h.1 le) ∙ e))
 
 -- a set stays what it is
 pub denotes_later : (old new : Store) (test : List ℕ → Bool) (id : Id) → Keeps old new → Denotes old test id → Denotes new test id

@@ -47,7 +47,8 @@ impl Joint {
             return Ok(self);
         }
         let stored = self.all.stored(alloc)?;
-        if stored.store.size(stored.set)? > MOST_NODES {
+        let small = stored.store.is_size_within(stored.set, MOST_NODES)?;
+        if !small {
             return Err(PartFault::TooLarge { part });
         }
         let all = Conjunction::of(&stored.store, stored.set)?;

@@ -100,7 +100,8 @@ pub(crate) fn count_part(store: &Store, set: Id, made: &mut u32) -> Result<(), P
         Some(part) => part,
         None => return Err(PartFault::NoMemory),
     };
-    if store.size(set)? > MOST_NODES {
+    let small = store.is_size_within(set, MOST_NODES)?;
+    if !small {
         return Err(PartFault::TooLarge { part });
     }
     *made = part;

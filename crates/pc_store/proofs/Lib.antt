@@ -1,4 +1,6 @@
+pub mod BoundLemmas
 pub mod ChildLemmas
+pub mod DistinctLemmas
 pub mod EachLemmas
 pub mod GrowthLemmas
 pub mod LayerLemmas

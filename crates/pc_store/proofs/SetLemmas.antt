@@ -292,3 +292,11 @@ pub size_is : (store : List Layer) (id : Id) (layers : List Layer) → layers �
 unfolding domains_of has layer_of
 size_is store id layers are (Err e) h = tt
 size_is store id layers are (Ok m) h = h ∙ (λ i. size (map (λ layer. layer.domain) (are i)) (accepts (are i) id.node)) ∙ ap (λ d. size d (accepts (drop id.layer store) id.node)) (sym (domains_drop id.layer store))
+
+-- the same where it is compared with a number
+pub size_within : (store : List Layer) (id : Id) (layers : List Layer) → layers ≡ drop id.layer store → (most : ℕ) (r : Result Bool NoMemory) → IfOk r (λ within. IsTrue within ↔ (size (map (λ layer. layer.domain) layers) (accepts layers id.node) ≤ most)) →
+    IfOk r (λ within. IsTrue within ↔ (size (drop (layer_of id) (domains_of store)) (has store id) ≤ most))
+unfolding domains_of has layer_of
+size_within store id layers are most (Err e) h = tt
+size_within store id layers are most (Ok within) h =
+    subst (λ (n : ℕ). IsTrue within ↔ (n ≤ most)) ((λ i. size (map (λ layer. layer.domain) (are i)) (accepts (are i) id.node)) ∙ ap (λ d. size d (accepts (drop id.layer store) id.node)) (sym (domains_drop id.layer store))) h

@@ -199,7 +199,7 @@ count_split front back h hb node lt kept names =
         any-map (same q) (words_of back) kept ∙ any_same (λ n. same q (words_of back n)) (tested q) kept (kept_passes q) ∙ any_each (reached front node) kept names (tested q) (fails q)
         ∙ sym (any-filter_map (same q) has_words (words_of back) (reached front node))
 
-domains_take : (count : ℕ) (layers : List Layer) → take count (domains layers) ≡ domains (take count layers)
+pub domains_take : (count : ℕ) (layers : List Layer) → take count (domains layers) ≡ domains (take count layers)
 domains_take zero layers = refl
 domains_take (suc count) [] = refl
 domains_take (suc count) (layer ∷ layers) = ap (λ l. layer.domain ∷ l) (domains_take count layers)

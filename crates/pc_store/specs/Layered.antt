@@ -1,5 +1,5 @@
 -- Nodes in layers, and the words that they have.
-use Rattle.std.specs.Prelude.{◌≡◌, ℕ, zero, suc, ◌<◌, ◌≤◌, ◌==◌, nat_eq, List, [], ◌∷◌, Bool, false, Some, length, replicate, slice_get, slice_index, slice_index_or, All}
+use Rattle.std.specs.Prelude.{◌≡◌, ℕ, zero, suc, ◌+◌, ◌<◌, ◌≤◌, ◌==◌, nat_eq, List, [], ◌∷◌, Bool, false, Some, length, replicate, slice_get, slice_index, slice_index_or, All}
 use Rattle.std.specs.Cmp.Lexicographic.{pointwise}
 use Rattle.std.specs.List.{IsDistinct}
 use Rattle.pc_diagram.specs.declared.limits.TheConstants.{MOST_VALUES, MOST_VARIABLES}
@@ -14,6 +14,11 @@ row_of layer node = slice_index_or layer.table node []
 abbrev pub node_count : List Layer → ℕ
 node_count [] = 2
 node_count (layer ∷ layers) = length layer.table
+
+-- how many nodes the layers have, and the two below the last
+abbrev pub node_total : List Layer → ℕ
+node_total [] = 2
+node_total (layer ∷ layers) = length layer.table + node_total layers
 
 -- a node of the first layer has a word. Past the end of a list of children, and of nodes, stands node 0
 abbrev pub accepts : List Layer → ℕ → List ℕ → Bool

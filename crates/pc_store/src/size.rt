@@ -1,10 +1,10 @@
 //! How large sets are.
 
-ghost use Rattle.std.specs.Prelude.{◌≡◌, ◌<◌, [], ◌∷◌, ◌++◌, ℕ, List, nat_eq, true, length, map, All, IfOk, OnOk};
+ghost use Rattle.std.specs.Prelude.{◌≡◌, ◌<◌, [], ◌∷◌, ◌++◌, ◌≤◌, ◌↔◌, ℕ, List, nat_eq, true, IsTrue, length, map, All, IfOk, OnOk};
 ghost use Rattle.std.specs.List.{list_any, flat_map};
 ghost use Rattle.pc_diagram.specs.Rests.{size};
 ghost use Rattle.pc_store.specs.Each.{NamesEach};
-ghost use Rattle.pc_store.specs.Layered.{row_of, node_count, accepts, IsLayered};
+ghost use Rattle.pc_store.specs.Layered.{row_of, node_count, node_total, accepts, IsLayered};
 
 use crate::layer::Layer;
 use indexmap::IndexSet;
@@ -28,6 +28,40 @@ pub(crate) fn size_of(alloc: Global, layers: &[Layer], node: u32) -> Result<u64,
         count = count.checked_add(nodes.len() as u64).ok_or(NoMemory)?;
     }
     Ok(count)
+}
+
+/// Whether the size of the set of a node of the first layer is at most so many. Where the layers have no more nodes, none is
+/// gone through.
+pub(crate) fn is_size_within(
+    alloc: Global,
+    layers: &[Layer],
+    node: u32,
+    most: u64,
+) -> Result<bool, NoMemory>
+    requires layered { IsLayered layers.now }
+    requires is_node { node < node_count layers.now }
+    ensures { IfOk result (λ within. IsTrue within ↔ (size (map (λ layer. layer.domain) layers.now) (accepts layers.now node) ≤ most)) }
+{
+    if are_within(layers, most) {
+        return Ok(true);
+    }
+    let size = size_of(alloc, layers, node)?;
+    Ok(size <= most)
+}
+
+/// Whether the nodes of all layers are at most so many. Past the last layer stand two.
+fn are_within(layers: &[Layer], most: u64) -> bool
+    ensures { IsTrue result ↔ (node_total layers.now ≤ most) }
+{
+    let mut left = most;
+    for layer in layers {
+        let nodes = layer.table.len() as u64;
+        if nodes > left {
+            return false;
+        }
+        left -= nodes;
+    }
+    left >= 2
 }
 
 /// The children of nodes, but for the one without words, each once.

@@ -7,7 +7,7 @@ ghost use Rattle.pc_diagram.specs.Words.{is_word};
 use crate::children::Children;
 use crate::id::{Id, Node, write_nodes};
 use crate::layer::{Layer, intern_at, new_layers};
-use crate::size::{EMPTY, size_of};
+use crate::size::{EMPTY, is_size_within, size_of};
 use crate::table::Row;
 use pc_base::NoMemory;
 use pc_diagram::MOST_VARIABLES;
@@ -169,6 +169,15 @@ impl Store {
     {
         let (_, layers) = self.layers.as_slice().split_at(id.layer as usize);
         size_of(self.allocator(), layers, id.node)
+    }
+
+    /// Whether the size of a set is at most so many. It takes no time by the set where the whole store has no more nodes.
+    pub fn is_size_within(&self, id: Id, most: u64) -> Result<bool, NoMemory>
+        requires { IsId self.now id }
+        ensures { IfOk result (λ within. IsTrue within ↔ (size (drop (layer_of id) (domains_of self.now)) (has self.now id) ≤ most)) }
+    {
+        let (_, layers) = self.layers.as_slice().split_at(id.layer as usize);
+        is_size_within(self.allocator(), layers, id.node, most)
     }
 
     /// Whether two ids of one layer have the same words.
