@@ -1,3 +1,14 @@
 pub mod Places
 pub mod VisitLemmas
 pub mod OwnLemmas
+pub mod WrittenLemmas
+pub mod BookLemmas
+pub mod EnterLemmas
+pub mod VersionsLemmas
+pub mod LeaveLemmas
+pub mod CloseLemmas
+pub mod SharingLemmas
+pub mod OpenLemmas
+pub mod ShelfPlaces
+pub mod ReclaimLemmas
+pub mod RebaseLemmas

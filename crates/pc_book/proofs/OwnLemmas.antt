@@ -29,7 +29,7 @@ use Rattle.pc_book.specs.Visits.{has_number, plain_head, reply_among, reply_at, 
 use Rattle.pc_book.proofs.VisitLemmas.{change-owned, find-owned, found-has, found-number, kept-after, none-leaves, refused-leaves}
 
 -- a session of an owner is found among the owner's alone
-find-own : (owner number : ℕ) (sessions : List OpenSession) → find (is_session owner number) sessions ≡ find (is_session owner number) (filter (is_owned owner) sessions)
+pub find-own : (owner number : ℕ) (sessions : List OpenSession) → find (is_session owner number) sessions ≡ find (is_session owner number) (filter (is_owned owner) sessions)
 find-own owner number [] = refl
 find-own owner number (s ∷ sessions) =
     elim (is_owned owner s) as (λ b. is_owned owner s ≡ b → find (is_session owner number) (s ∷ sessions) ≡ find (is_session owner number) (cond b (s ∷ filter (is_owned owner) sessions) (filter (is_owned owner) sessions))) [
@@ -49,7 +49,7 @@ module _ (owner number : ℕ) (change : OpenSession → OpenSession) (keeps : (s
         | false ↦ ap (λ b. cond b (s ∷ filter (is_owned owner) (change_first (is_session owner number) change sessions)) (filter (is_owned owner) (change_first (is_session owner number) change sessions))) own ∙ ap (λ ss. s ∷ ss) rest
       ]
 
-  owned-changes : (sessions : List OpenSession) → filter (is_owned owner) (change_first (is_session owner number) change sessions) ≡ change_first (is_session owner number) change (filter (is_owned owner) sessions)
+  pub owned-changes : (sessions : List OpenSession) → filter (is_owned owner) (change_first (is_session owner number) change sessions) ≡ change_first (is_session owner number) change (filter (is_owned owner) sessions)
   owned-changes [] = refl
   owned-changes (s ∷ sessions) =
       elim (is_owned owner s) as (λ b. is_owned owner s ≡ b → filter (is_owned owner) (change_first (is_session owner number) change (s ∷ sessions)) ≡ change_first (is_session owner number) change (cond b (s ∷ filter (is_owned owner) sessions) (filter (is_owned owner) sessions))) [

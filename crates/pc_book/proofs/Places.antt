@@ -12,7 +12,7 @@ use Rattle.pc_session.specs.declared.answer.Answer as declared
 use Rattle.pc_session.specs.Visit.{Visit, session_answer, visit_after}
 use Rattle.pc_book.specs.Visits.{has_number, plain_head, reply_at, reply_among, shown_with, visit_reply, visits_after, without_number}
 
-none-passes : {X : Type 0} (p : X → Bool) (xs : List X) → position p xs ≡ None → (k : ℕ) (d : X) → k < length xs → p (slice_index_or xs k d) ≡ false
+pub none-passes : {X : Type 0} (p : X → Bool) (xs : List X) → position p xs ≡ None → (k : ℕ) (d : X) → k < length xs → p (slice_index_or xs k d) ≡ false
 none-passes p xs none k d inside =
     elim (cases_Bool (nat_lt (position_or_len p xs) (length xs))) [
       | inl found ↦ let some : Some (position_or_len p xs) ≡ None = sym (ap (λ (b : Bool). cond b (Some (position_or_len p xs)) None) found) ∙ none in absurd cc

@@ -12,7 +12,7 @@ use Rattle.pc_session.specs.Visit.{Visit, visit_after}
 use Rattle.pc_book.specs.Own.{owned_by}
 use Rattle.pc_book.specs.Visits.{has_number, visits_after, without_number}
 
-self-same : (n : ℕ) → (n == n) ≡ true
+pub self-same : (n : ℕ) → (n == n) ≡ true
 self-same n = grind (arith, nat_tests)
 
 -- the session of a number, among those of its owner

@@ -5,6 +5,7 @@ ghost use Rattle.pc_calls.specs.declared.outcome.Outcome.TheVariants.{Done};
 ghost use Rattle.pc_calls.specs.Selection.{free, show, shown};
 ghost use Rattle.pc_session.specs.Visit.{session_answer, visit_after};
 ghost use Rattle.pc_book.specs.Change.{changed};
+ghost use Rattle.pc_book.specs.Rebases.{IsPrepared};
 ghost use Rattle.pc_book.specs.Visits.{has_number, plain_head, close_reply, reply_among, visits_after, without_number};
 
 use crate::change::Change;
@@ -13,7 +14,7 @@ use pc_base::NoMemory;
 use pc_build::SharedVersion;
 use pc_calls::{Outcome, Reply, Shown};
 use pc_diagram::Steps;
-use pc_session::{Answer, Session};
+use pc_session::{Answer, Rebased, Session};
 use std::alloc::Global;
 use std::marker::Brand;
 use std::sync::ledger::{Blank, Ledger};
@@ -133,5 +134,25 @@ impl Guest {
             head: plain_head(self.alloc, number, session.version(), Outcome::Done),
             shown: None,
         }
+    }
+
+    /// A session as it moves to another version, which has this number: nothing where there is no such session or it is there.
+    pub fn prepare(
+        &self,
+        number: u64,
+        version: u64,
+        target: &SharedVersion,
+        dropping: bool,
+    ) -> Result<Option<Rebased>, NoMemory>
+        ensures { IfOk result (IsPrepared (find (has_number number) self.now.sessions.items) version target.now.file dropping) }
+    {
+        let Some(place) = place(self.sessions.as_slice(), number) else {
+            return Ok(None);
+        };
+        let session = &self.sessions[place];
+        if version == session.version() {
+            return Ok(None);
+        }
+        Ok(Some(session.rebased(target, version, dropping)?))
     }
 }

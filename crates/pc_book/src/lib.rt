@@ -1,13 +1,18 @@
-//! A caller's own part of the shop: its open sessions, and the calls of theirs that no other caller has seen yet. Each
-//! call that is a session's own is answered by that session alone, and its entry waits in a block of the caller's; whatever
-//! the others have called meanwhile, the answer is that of the history with these entries at its end.
+//! The book of a shop and the parts of its callers. A caller's own part has its open sessions and its entries that no other
+//! caller has seen: whatever the others have called meanwhile, it answers as the history with these entries at its end does. A
+//! call that others see appends one block to the book's journal, which is legal at all times; what the book keeps beside the
+//! journal is what the state after it has.
 #![tactic(auto)]
 
+mod book;
 mod change;
 mod guest;
+mod opening;
 mod own;
 mod replying;
+mod shelf;
 
+pub use book::{Block, Book, Journal};
 pub use change::Change;
 pub use guest::Guest;
 pub use own::Own;

@@ -1,21 +1,27 @@
 //! A caller's own part of the shop.
 
-ghost use Rattle.std.specs.Prelude.{◌≡◌, List, IfOk, OnOk, OnErr};
+ghost use Rattle.std.specs.Prelude.{◌≡◌, ◌<◌, List, [], ◌∷◌, ◌++◌, find, IfOk, OnOk, OnErr, ◌+◌, ◌^◌, length, Some};
 ghost use Rattle.pc_calls.specs.declared.call.Call.TheVariants.{Show, Choose, Retract, Bound, Unbound};
 ghost use Rattle.pc_calls.specs.declared.entry.Entry.{Entry};
-ghost use Rattle.pc_calls.specs.Selection.{show};
+ghost use Rattle.pc_calls.specs.Selection.{show, free, shown};
 ghost use Rattle.pc_book.specs.Change.{change_call, changed};
 ghost use Rattle.pc_book.specs.Own.{OwnPart, Serves, StandsAfter, own_after};
-ghost use Rattle.pc_book.specs.Visits.{plain_head, reply_among};
+ghost use Rattle.pc_book.specs.Visits.{close_reply, has_number, plain_head, reply_among, without_number};
+ghost use Rattle.pc_calls.specs.declared.outcome.Outcome.TheVariants.{Done};
+ghost use Rattle.pc_book.specs.Sharing.{with_visit};
+ghost use Rattle.pc_book.specs.Rebases.{IsPrepared};
 
 use crate::change::Change;
 use crate::guest::Guest;
 use crate::replying::plain_head;
-use pc_base::{NoMemory, Reserved};
+use pc_base::{NoMemory, Reserved, Sequence};
+use pc_build::SharedVersion;
 use pc_calls::{Call, Entry, Head, Reply};
 use pc_names::Name;
+use pc_session::{Rebased, Session};
 use std::alloc::Global;
 use std::marker::Model;
+use std::mem;
 
 /// A caller's number, its open sessions, and its entries that wait for the journal. One more entry always has its place,
 /// so that a leave takes no memory. It can't be dropped: the caller leaves.
@@ -42,7 +48,7 @@ impl Model for Own {
 }
 
 /// The entry of a call whose answer lists nothing besides its head.
-fn noted(alloc: Global, caller: u64, call: Call, head: &Head) -> Entry
+pub(crate) fn noted(alloc: Global, caller: u64, call: Call, head: &Head) -> Entry
     ensures { result ≡ record { caller = caller; call = call; head = plain_head head.now.session head.now.version head.now.outcome } }
 {
     Entry {
@@ -53,6 +59,105 @@ fn noted(alloc: Global, caller: u64, call: Call, head: &Head) -> Entry
 }
 
 impl Own {
+    /// The part of a caller that has just entered, with a list in which its entries wait.
+    pub(crate) fn new(alloc: Global, number: u64, pending: Reserved<Entry>) -> Own
+        requires none { pending.items ≡ [] }
+        requires place { 0 < pending.reserved }
+        ensures { result ≡ record { number = number; opened = 0; sessions = []; pending = [] } }
+    {
+        Own {
+            number,
+            guest: Guest {
+                alloc,
+                opened: 0,
+                sessions: Vec::new(alloc),
+            },
+            pending,
+        }
+    }
+
+    /// The block of the waiting entries with one more. What waits from now on has another list.
+    pub(crate) fn seal(&mut self, entry: Entry, pending: Reserved<Entry>) -> Sequence<Entry>
+        requires none { pending.items ≡ [] }
+        requires place { 0 < pending.reserved }
+        ensures block { result ≡ self.old.pending ++ entry ∷ [] }
+        ensures part { self.new ≡ record { number = self.old.number; opened = self.old.opened; sessions = self.old.sessions; pending = [] } }
+    {
+        let mut waiting = mem::replace(&mut self.pending, pending);
+        waiting.push(entry);
+        waiting.into_sequence()
+    }
+
+    /// The block of the waiting entries. What waits from now on has another list.
+    pub(crate) fn settle(&mut self, pending: Reserved<Entry>) -> Sequence<Entry>
+        requires none { pending.items ≡ [] }
+        requires place { 0 < pending.reserved }
+        ensures block { result ≡ self.old.pending }
+        ensures part { self.new ≡ record { number = self.old.number; opened = self.old.opened; sessions = self.old.sessions; pending = [] } }
+    {
+        mem::replace(&mut self.pending, pending).into_sequence()
+    }
+
+    /// The caller leaves: the block of its waiting entries with the last one, and its open sessions.
+    pub(crate) fn leave(self, entry: Entry) -> (Sequence<Entry>, Vec<Session>)
+        ensures block { result.0 ≡ self.pending ++ entry ∷ [] }
+        ensures sessions { result.1.items ≡ self.sessions }
+    {
+        let Own {
+            number: _,
+            guest,
+            mut pending,
+        } = self;
+        pending.push(entry);
+        (pending.into_sequence(), guest.sessions)
+    }
+
+    /// Ends a session.
+    pub(crate) fn close(&mut self, session: u64) -> Reply
+        ensures reply { result ≡ close_reply session (find (has_number session) self.old.sessions) }
+        ensures part { self.new ≡ record { number = self.old.number; opened = self.old.opened; sessions = without_number session self.old.sessions; pending = self.old.pending } }
+    {
+        self.guest.close(session)
+    }
+
+    /// How many sessions are open.
+    pub(crate) fn count(&self) -> usize
+        ensures { result ≡ length self.now.sessions }
+    {
+        self.guest.count()
+    }
+
+    /// Opens a session at a version, which has this number.
+    pub(crate) fn open(
+        &mut self,
+        version_number: u64,
+        version: SharedVersion,
+    ) -> Result<Reply, NoMemory>
+        requires room { self.old.opened < 2 ^ 63 }
+        ensures reply { IfOk result (λ reply. reply ≡ record { head = plain_head (self.old.opened + 1) version_number Done; shown = Some (record { file = version.file; listing = shown version.file free }) }) }
+        ensures part { OnOk result (self.new ≡ with_visit version_number version.file self.old) }
+        ensures kept { OnErr result (self.new ≡ self.old) }
+    {
+        self.guest.open(version_number, version)
+    }
+
+    /// A session as it moves to another version, which has this number: nothing where there is no such session or it is there.
+    ///
+    /// # Errors
+    ///
+    /// Want of memory.
+    pub fn prepare(
+        &self,
+        session: u64,
+        version: u64,
+        target: &SharedVersion,
+        dropping: bool,
+    ) -> Result<Option<Rebased>, NoMemory>
+        ensures { IfOk result (IsPrepared (find (has_number session) self.now.sessions) version target.now.file dropping) }
+    {
+        self.guest.prepare(session, version, target, dropping)
+    }
+
     /// Its number among the callers, from 1 on.
     pub fn caller(&self) -> u64
         ensures { result ≡ self.now.number }

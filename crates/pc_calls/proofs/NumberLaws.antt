@@ -157,7 +157,7 @@ versions-count before caller said may =
     said
 
 -- a newcomer has opened none
-more-opened : (callers : List Caller) (owner : ℕ) → opened_at (callers ++ newcomer ∷ []) owner ≡ opened_at callers owner
+pub more-opened : (callers : List Caller) (owner : ℕ) → opened_at (callers ++ newcomer ∷ []) owner ≡ opened_at callers owner
 more-opened callers zero = refl
 more-opened [] (suc zero) = refl
 more-opened [] (suc (suc place)) = refl
@@ -165,7 +165,7 @@ more-opened (c ∷ callers) (suc zero) = refl
 more-opened (c ∷ callers) (suc (suc place)) = more-opened callers (suc place)
 
 -- who leaves has opened as many as before
-gone-opened : (callers : List Caller) (caller owner : ℕ) → opened_at (change_numbered gone callers caller) owner ≡ opened_at callers owner
+pub gone-opened : (callers : List Caller) (caller owner : ℕ) → opened_at (change_numbered gone callers caller) owner ≡ opened_at callers owner
 gone-opened callers caller owner = ap (λ o. unwrap_or o 0) (change-reads (λ (c : Caller). c.opened) gone (λ c. refl) callers caller owner)
 
 module _ (owner caller : ℕ) (before : State) where
