@@ -12,3 +12,4 @@ pub mod OpenLemmas
 pub mod ShelfPlaces
 pub mod ReclaimLemmas
 pub mod RebaseLemmas
+pub mod PublishLemmas

@@ -1,6 +1,10 @@
 -- What a call that others see does beside the journal.
-use Rattle.std.specs.Prelude.{◌≡◌, ℕ, ◌+◌, true, List, [], ◌∷◌, ◌++◌}
+use Rattle.std.specs.Prelude.{◌≡◌, ◌≢◌, ℕ, ◌+◌, true, List, [], ◌∷◌, ◌++◌, Result, Ok, Err}
+use Rattle.pc_build.specs.Building.{IsBuildFault, IsSmall}
+use Rattle.pc_build.specs.declared.fault.BuildFault.{BuildFault}
+use Rattle.pc_build.specs.declared.version.Version as compiled
 use Rattle.pc_file.specs.Contents.{Contents}
+use Rattle.pc_file.specs.Full.{full}
 use Rattle.pc_calls.specs.declared.call.Call.{Call}
 use Rattle.pc_calls.specs.declared.reply.Reply.{Reply}
 use Rattle.pc_calls.specs.Heads as heads
@@ -38,3 +42,8 @@ pub record Brings (call : Call) (state : State) (own own_later : OwnPart) (reply
   pub there : is_present (after own.number call state) own.number ≡ true
   pub part : IsPartOf (after own.number call state) own_later
   pub kept : IsKeptOf (after own.number call state) shelves entered present now
+
+-- what the compiler gives for a file: its version, where it is small and has a product, or the fault that comes so
+abbrev pub IsBuilt : Contents → Result compiled.Version BuildFault → Type 0
+IsBuilt file (Ok version) = (version.file ≡ file) × IsSmall file × (full file ≢ [])
+IsBuilt file (Err fault) = IsBuildFault file fault

@@ -1,7 +1,7 @@
 //! The book of a shop: its live versions, its callers, and the journal of all calls.
 
 ghost use Rattle.std.specs.Prelude.{◌≡◌, ◌≢◌, List, [], ◌∷◌, ◌++◌, ◌+◌, ◌-◌, ◌≤◌, ◌<◌, ◌^◌, length, map, slice_get, Some, IfOk, OnOk, OnErr};
-ghost use Rattle.pc_calls.specs.declared.call.Call.TheVariants.{Close, Enter, Leave, Versions, Open, Reclaim};
+ghost use Rattle.pc_calls.specs.declared.call.Call.TheVariants.{Close, Enter, Leave, Versions, Open, Reclaim, Publish};
 ghost use Rattle.pc_calls.specs.declared.outcome.Outcome.TheVariants.{Done};
 ghost use Rattle.pc_calls.specs.History.{IsLegal, entry_of};
 ghost use Rattle.pc_calls.specs.Heads.{reply};
@@ -9,14 +9,17 @@ ghost use Rattle.pc_book.specs.Book.{Shares, history_of, next_caller, state_of_b
 ghost use Rattle.pc_book.specs.Own.{StandsAfter, state_with};
 ghost use Rattle.pc_book.specs.Shelves.{live_at};
 ghost use Rattle.pc_book.specs.Rebases.{IsTarget};
+ghost use Rattle.pc_book.specs.Sharing.{IsBuilt};
 
 use crate::opening::open_at_last;
 use crate::own::{Own, noted};
+use crate::publishing::shelve_built;
 use crate::replying::{plain_head, refused};
 use crate::shelf::{Shelf, place, retire, unpin, unpin_all};
 use pc_base::{NoMemory, Reserved, Sequence};
-use pc_build::SharedVersion;
+use pc_build::{BuildFault, SharedVersion, Version};
 use pc_calls::{Call, Entry, Head, Live, LiveList, Outcome, Reply};
+use pc_file::SharedFile;
 use std::alloc::Global;
 use std::marker::Model;
 
@@ -311,5 +314,38 @@ impl Book {
             return Ok(None);
         };
         Ok(Some(self.shelves[place].version.share()?))
+    }
+
+    /// Makes a file the next version, over the version that its writer knew. The compiler made this of it.
+    ///
+    /// # Errors
+    ///
+    /// Want of memory, here or in the compiler.
+    pub fn publish(
+        &mut self,
+        own: &mut Own,
+        base: u64,
+        file: SharedFile,
+        built: Result<Version, BuildFault>,
+    ) -> Result<Reply, NoMemory>
+        requires stands { StandsAfter (history_of self.old) own.old }
+        requires built { IsBuilt file built }
+        ensures shares { IfOk result (λ reply. Shares (Publish base file) self.old self.new own.old own.new reply) }
+        ensures kept { OnErr result ((self.new ≡ self.old) × (own.new ≡ own.old)) }
+    {
+        make_room(&mut self.journal, self.present, 1)?;
+        let pending = Reserved::with_capacity(self.alloc, 1)?;
+        let reply = shelve_built(
+            self.alloc,
+            &mut self.shelves,
+            &mut self.current,
+            base,
+            built,
+        )?;
+        let call = Call::Publish { base, file };
+        let entry = noted(self.alloc, own.caller(), call, &reply.head);
+        let block = own.seal(entry, pending);
+        self.journal.push(block);
+        Ok(reply)
     }
 }

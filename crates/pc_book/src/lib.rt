@@ -9,6 +9,7 @@ mod change;
 mod guest;
 mod opening;
 mod own;
+mod publishing;
 mod replying;
 mod shelf;
 
