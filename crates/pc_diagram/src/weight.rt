@@ -1,6 +1,6 @@
 //! Weights of paths.
 
-ghost use Rattle.std.specs.Prelude.{◌≡◌, ◌<◌, ◌↔◌, ◌*◌, ◌%◌, pos, ◌+ℤ◌, ◌-ℤ◌, Some, None, IsTrue, IfSome, option_map};
+ghost use Rattle.std.specs.Prelude.{◌≡◌, ◌≢◌, ◌<◌, ◌↔◌, ◌*◌, ◌%◌, pos, ◌+ℤ◌, ◌-ℤ◌, Some, None, IsTrue, IfSome, option_map};
 ghost use Rattle.pc_diagram.specs.Costs.{IsSum};
 ghost use Rattle.pc_diagram.specs.Weight.{IsInReach, half_count, lifted, second_count, rank_count, ranked_number, ranked_of};
 
@@ -109,6 +109,20 @@ impl Weight {
         }
         Weight {
             number: sum(self.number, other.number),
+        }
+    }
+
+    /// The same where the other is known to be the weight of a path, and isn't tested: for a pass that adds a few weights to many.
+    pub fn plus_path(&self, path: &Weight) -> Weight
+        requires some { path.now ≢ None }
+        requires range { IfSome self.now (λ a. IfSome path.now (λ b. IsRanked (plus_ranked a b))) }
+        ensures { result ≡ plus self.now path.now }
+    {
+        if self.is_none() {
+            return Weight::none();
+        }
+        Weight {
+            number: sum(self.number, path.number),
         }
     }
 

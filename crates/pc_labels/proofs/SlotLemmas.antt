@@ -17,7 +17,7 @@ use Rattle.pc_labels.specs.declared.step.Step.{Step}
 use Rattle.pc_labels.specs.AllowedSlots.{AreSlots}
 use Rattle.pc_labels.specs.Marks.{Marks, weight_at, IsBelow}
 use Rattle.pc_labels.specs.Slots.{LeadsTo, LeadsFrom, AreNextHeads, AreNextTails, HasRoom, onward, backward}
-use Rattle.pc_labels.specs.SoFar.{step_at, slot_weight, widened, onward_by, backward_by, MayGoOn, MayComeFrom, HasLed, HasLedOn, AreHeadsSoFar, AreTailsSoFar}
+use Rattle.pc_labels.specs.SoFar.{step_at, slot_weight, widened, onward_by, backward_by, HaveWeights, MayGoOn, MayComeFrom, HasLed, HasLedOn, AreHeadsSoFar, AreTailsSoFar}
 use Rattle.pc_diagram.proofs.ChoiceLemmas.{is_some-value_of}
 use Rattle.pc_labels.proofs.LeastOf.{least-same}
 
@@ -38,6 +38,11 @@ times_more r limit d v h k =
 pub slot_is : (domain scale : ℕ) (chosen : Option ℕ) (row : List CostPair) (slots : Slots) (step : Step) → AreSlots domain chosen row scale slots → step.value < domain →
     slot_weight slots step ≡ Some (record { pair = pair_at row step.value; rank = step.value * scale })
 slot_is domain scale chosen row slots step h lt = h.weights.each step.value (omega (arith, lt, h.width))
+
+-- each slot adds something
+pub have_weights : (domain scale : ℕ) (chosen : Option ℕ) (row : List CostPair) (slots : Slots) → AreSlots domain chosen row scale slots → HaveWeights slots
+have_weights domain scale chosen row slots h step of e =
+    let is = slot_is domain scale chosen row slots step h (omega (arith, of.1, h.values.within)) in absurd cc
 
 same_some : {X : Type 0} (x y : X) → Some x ≡ Some y → x ≡ y
 same_some x y e = ap (λ o. unwrap_or o x) e

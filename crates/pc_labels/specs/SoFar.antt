@@ -1,5 +1,5 @@
 -- Layers in the making.
-use Rattle.std.specs.Prelude.{◌≡◌, ◌⊎◌, ℕ, ◌+◌, ◌*◌, ◌<◌, ◌≤◌, List, length, slice_index_or, Option, Some, None, option_map}
+use Rattle.std.specs.Prelude.{◌≡◌, ◌≢◌, ◌⊎◌, ℕ, ◌+◌, ◌*◌, ◌<◌, ◌≤◌, List, length, slice_index_or, Option, Some, None, option_map}
 use Rattle.pc_diagram.specs.declared.costs.CostPair.{CostPair}
 use Rattle.pc_diagram.specs.declared.weight.Ranked.{Ranked}
 use Rattle.pc_diagram.specs.Levels.{Level, edge}
@@ -20,6 +20,10 @@ IsOf slots step = (slots.values.first ≤ step.value) × (step.value < slots.val
 -- what the slot of a step adds to a path
 abbrev pub slot_weight : Slots → Step → Option Ranked
 slot_weight slots step = slice_index_or slots.weights.items step.value None
+
+-- each slot adds something
+abbrev pub HaveWeights : Slots → Type 0
+HaveWeights slots = (step : Step) → IsOf slots step → slot_weight slots step ≢ None
 
 -- the weight of a node with room in its rank for so many values
 abbrev pub widened : ℕ → Marks → ℕ → Option Ranked

@@ -1,17 +1,17 @@
 //! The layer of labels before one that leads to the end.
 
-ghost use Rattle.std.specs.Prelude.{◌≡◌, ◌+◌, ◌-◌, ◌*◌, ◌≤◌, ◌<◌, length, slice_index, slice_index_or, [], vec_len, IfOk, OnOk};
+ghost use Rattle.std.specs.Prelude.{◌≡◌, ◌≢◌, ◌+◌, ◌-◌, ◌*◌, ◌≤◌, ◌<◌, length, slice_index, slice_index_or, [], vec_len, None, IfOk, IfSome, OnOk};
 ghost use Rattle.pc_diagram.specs.Choices.{value_of};
 ghost use Rattle.pc_diagram.specs.Diagram.{IsCanonical};
 ghost use Rattle.pc_diagram.specs.Levels.{level};
 ghost use Rattle.pc_diagram.specs.NodePaths.{AreCostsOf, AreChoicesOf};
-ghost use Rattle.pc_diagram.specs.Weight.{rank_count};
+ghost use Rattle.pc_diagram.specs.Weight.{plus, plus_ranked, rank_count, IsRanked};
 ghost use Rattle.pc_labels.specs.Growing.{AreTailsFrom};
 ghost use Rattle.pc_labels.specs.Labels.{slots_of};
 ghost use Rattle.pc_labels.specs.Lesser.{lesser};
 ghost use Rattle.pc_labels.specs.Marks.{AreMarks, IsBelow};
 ghost use Rattle.pc_labels.specs.Slots.{AreNextTails, HasRoom, IsLeastOf};
-ghost use Rattle.pc_labels.specs.SoFar.{AreNextTailsOf, HasLedOn, MayComeFrom, backward_by};
+ghost use Rattle.pc_labels.specs.SoFar.{AreNextTailsOf, HasLedOn, HaveWeights, MayComeFrom, backward_by};
 
 use crate::layer::{Layer, NO_STEP};
 use crate::ranks::needs_ranks_anew;
@@ -133,6 +133,7 @@ fn least_slot<L: Ledger>(
     requires order { slots.now.values.first ≤ slots.now.values.end }
     requires slots { slots.now.values.end ≤ slice_index diagram.now.domains variable }
     requires weights { slots.now.values.end ≤ vec_len slots.now.weights }
+    requires some { HaveWeights slots.now }
     requires place { MayComeFrom (slice_index diagram.now.domains variable) slots.now after.now }
     ensures least { IsLeastOf (HasLedOn (level diagram.now variable) slots.now node slots.now.values.end) (backward_by slots.now after.now) result.weight result.step }
     ensures below { IsBelow (after.now.limit * slice_index diagram.now.domains variable) result.weight }
@@ -144,24 +145,31 @@ fn least_slot<L: Ledger>(
     };
     for value in slots.values.first..slots.values.end {
         if let Some(target) = diagram.edge(variable, node, value, steps) {
-            let weight = after.weight(target).plus(&slots.weights[value as usize]);
             let step = Step {
                 node: target,
                 value,
             };
-            least = lesser(least, Mark { weight, step });
+            let added = &slots.weights[value as usize];
+            least = lesser_sum(least, after.weight(target), added, step);
         }
     }
     least
 }
 
-/// The lesser of two by weight; the first where they are equal.
-fn lesser(first: Mark, second: Mark) -> Mark
-    ensures { result ≡ lesser first second }
+/// The lesser of a mark and of a step by which a slot adds to a weight: the mark where they are equal. A weight that is none is
+/// left before anything is added to it.
+fn lesser_sum(least: Mark, weight: Weight, added: &Weight, step: Step) -> Mark
+    requires some { added.now ≢ None }
+    requires place { IfSome weight (λ a. IfSome added.now (λ b. IsRanked (plus_ranked a b))) }
+    ensures { result ≡ lesser least (record { weight = plus weight added.now; step = step }) }
 {
-    if second.weight.is_less_than(&first.weight) {
-        second
+    if weight.is_none() {
+        return least;
+    }
+    let weight = weight.plus_path(added);
+    if weight.is_less_than(&least.weight) {
+        Mark { weight, step }
     } else {
-        first
+        least
     }
 }

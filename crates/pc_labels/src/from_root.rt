@@ -10,7 +10,7 @@ ghost use Rattle.pc_labels.specs.Growing.{AreHeadsUpTo};
 ghost use Rattle.pc_labels.specs.Labels.{slots_of};
 ghost use Rattle.pc_labels.specs.Marks.{AreMarks};
 ghost use Rattle.pc_labels.specs.Slots.{AreNextHeads, HasRoom};
-ghost use Rattle.pc_labels.specs.SoFar.{AreHeadsSoFar, AreNextHeadsOf, MayGoOn};
+ghost use Rattle.pc_labels.specs.SoFar.{AreHeadsSoFar, AreNextHeadsOf, HaveWeights, MayGoOn};
 
 use crate::layer::Layer;
 use crate::ranks::needs_ranks_anew;
@@ -126,6 +126,7 @@ fn offer_slots<L: Ledger>(
     requires order { slots.now.values.first ≤ slots.now.values.end }
     requires slots { slots.now.values.end ≤ slice_index diagram.now.domains variable }
     requires weights { slots.now.values.end ≤ vec_len slots.now.weights }
+    requires some { HaveWeights slots.now }
     requires place { MayGoOn (slice_index diagram.now.domains variable) slots.now before.now }
     requires so_far { AreHeadsSoFar (level diagram.now variable) slots.now before.now node 0 next.old }
     ensures so_far { AreHeadsSoFar (level diagram.now variable) slots.now before.now (node + 1) 0 next.new }
@@ -139,7 +140,8 @@ fn offer_slots<L: Ledger>(
     for value in slots.values.first..slots.values.end {
         let step = Step { node, value };
         if let Some(target) = diagram.edge(variable, node, value, steps) {
-            next.offer(target, widened.plus(&slots.weights[value as usize]), step);
+            let added = &slots.weights[value as usize];
+            next.offer(target, widened.plus_path(added), step);
         }
     }
 }

@@ -5,7 +5,7 @@ use Rattle.pc_diagram.specs.Levels.{level}
 use Rattle.pc_labels.specs.AllowedSlots.{AreSlots}
 use Rattle.pc_labels.specs.Marks.{IsBelow}
 use Rattle.pc_labels.specs.SoFar.{AreTailsSoFar}
-use Rattle.pc_labels.proofs.SlotLemmas.{may_come_from, tails-made, counted, steps_within, steps_more}
+use Rattle.pc_labels.proofs.SlotLemmas.{have_weights, may_come_from, tails-made, counted, steps_within, steps_more}
 use Rattle.pc_labels.proofs.TailsSoFar.{tails-next}
 use Rattle.pc_labels.proofs.from_end.gather.Goals as goal
 
@@ -13,6 +13,9 @@ pub least_slot-least-requires-clause-place : goal.least_slot-least-requires-clau
 least_slot-least-requires-clause-place g c =
     may_come_from (slice_index c.args.diagram.now.domains c.args.variable) (value_of c.args.choices.now c.args.variable) (slice_index_or c.args.costs.now c.args.variable []) c.in_ok-slots.slots c.args.after.now
     c.requires.room (subst (λ n. All (IsBelow n) c.args.after.now.weights) c.limit.ensures.result c.limit.ensures.above) c.requires.ranks (subst (λ n. AreSlots (slice_index c.args.diagram.now.domains c.args.variable) (value_of c.args.choices.now c.args.variable) (slice_index_or c.args.costs.now c.args.variable []) n c.in_ok-slots.slots) c.limit.ensures.result c.in_ok-slots.ensures)
+
+pub least_slot-least-requires-clause-some : goal.least_slot-least-requires-clause-some
+least_slot-least-requires-clause-some g c = have_weights (slice_index c.args.diagram.now.domains c.args.variable) c.limit.result (value_of c.args.choices.now c.args.variable) (slice_index_or c.args.costs.now c.args.variable []) c.in_ok-slots.slots c.in_ok-slots.ensures
 
 pub loop-node-preserved : goal.loop-node-preserved
 loop-node-preserved g c = record {

@@ -14,20 +14,25 @@ use Rattle.pc_labels.proofs.HeadsSoFar.{in_range-of, below-of}
 use Rattle.pc_labels.proofs.from_end.least_slot.Goals as goal
 use Rattle.pc_labels.proofs.from_end.least_slot.Goals.{in-Some, in_default}
 
-pub plus-weight-requires : goal.plus-weight-requires
-plus-weight-requires g c =
+pub lesser_sum-least-requires-clause-some : goal.lesser_sum-least-requires-clause-some
+lesser_sum-least-requires-clause-some g c e =
+    c.requires.some (record { node = c.in-Some.target; value = c.loop-value.value }) (c.loop-value.auto.value, c.loop-value-test.true)
+    (sym (c.index-added.ensures ∙ get_or_default c.args.slots.now.weights.items c.loop-value.value c.index-added.result.now None (omega (arith, c.requires.weights, c.loop-value-test.true))) ∙ e)
+
+pub lesser_sum-least-requires-clause-place : goal.lesser_sum-least-requires-clause-place
+lesser_sum-least-requires-clause-place g c =
     in_range-of _ _ _ _ _ (c.requires.place (record { node = c.in-Some.target; value = c.loop-value.value }) (c.loop-value.auto.value, c.loop-value-test.true))
     c.weight.ensures.weight
-    (c.index.ensures ∙ get_or_default c.args.slots.now.weights.items c.loop-value.value c.index.result.now None (omega (arith, c.requires.weights, c.loop-value-test.true)))
+    (c.index-added.ensures ∙ get_or_default c.args.slots.now.weights.items c.loop-value.value c.index-added.result.now None (omega (arith, c.requires.weights, c.loop-value-test.true)))
 
 pub loop-value-preserved : goal.loop-value-preserved
 loop-value-preserved g c = elim c.match-edge.branch [
   | in-Some w ↦
       let here : Step = record { node = w.in-Some.target; value = c.loop-value.value } in
-      let weight_is = w.plus-weight.ensures ∙ ap (λ x. plus x w.index.result.now) w.weight.ensures.weight
-      ∙ ap (plus _) (w.index.ensures ∙ get_or_default c.args.slots.now.weights.items c.loop-value.value w.index.result.now None (omega (arith, c.requires.weights, c.loop-value-test.true))) in
+      let weight_is = ap (λ x. plus x w.index-added.result.now) w.weight.ensures.weight
+      ∙ ap (plus _) (w.index-added.ensures ∙ get_or_default c.args.slots.now.weights.items c.loop-value.value w.index-added.result.now None (omega (arith, c.requires.weights, c.loop-value-test.true))) in
       let is : c.match-edge.least ≡ lesser c.loop-value.least (record { weight = backward_by c.args.slots.now c.args.after.now here; step = here }) =
-      w.least-is ∙ w.lesser-least.ensures ∙ ap (λ x. lesser c.loop-value.least (record { weight = x; step = here })) weight_is in
+      w.least-is ∙ w.lesser_sum-least.ensures ∙ ap (λ x. lesser c.loop-value.least (record { weight = x; step = here })) weight_is in
       record {
         least = tails-live (level c.args.diagram.now c.args.variable) c.args.slots.now c.args.after.now c.args.node c.loop-value.value w.in-Some.target c.loop-value.least
             (c.loop-value.auto.value, c.loop-value-test.true) (sym c.edge.ensures.edge ∙ w.in-Some.is) c.loop-value.invariant.least c.match-edge.least is;

@@ -10,24 +10,29 @@ use Rattle.pc_labels.proofs.HeadsSoFar.{heads-dead, heads-live, heads-end, in_ra
 use Rattle.pc_labels.proofs.from_root.offer_slots.Goals as goal
 use Rattle.pc_labels.proofs.from_root.offer_slots.Goals.{in-Some, in_default}
 
-pub plus-requires : goal.plus-requires
-plus-requires g c =
+pub plus_path-requires-clause-some : goal.plus_path-requires-clause-some
+plus_path-requires-clause-some g c e =
+    c.requires.some (record { node = c.args.node; value = c.loop-value.value }) (c.loop-value.auto.value, c.loop-value-test.true)
+    (sym (c.index-added.ensures ∙ get_or_default c.args.slots.now.weights.items c.loop-value.value c.index-added.result.now None (omega (arith, c.requires.weights, c.loop-value-test.true))) ∙ e)
+
+pub plus_path-requires-clause-range : goal.plus_path-requires-clause-range
+plus_path-requires-clause-range g c =
     in_range-of _ _ _ _ _ (c.requires.place (record { node = c.args.node; value = c.loop-value.value }) (c.loop-value.auto.value, c.loop-value-test.true))
     (c.widened-widened.ensures ∙ ap (λ ds. widened (slice_index ds c.args.variable) c.args.before.now c.args.node) c.domains.ensures.domains)
-    (c.index.ensures ∙ get_or_default c.args.slots.now.weights.items c.loop-value.value c.index.result.now None (omega (arith, c.requires.weights, c.loop-value-test.true)))
+    (c.index-added.ensures ∙ get_or_default c.args.slots.now.weights.items c.loop-value.value c.index-added.result.now None (omega (arith, c.requires.weights, c.loop-value-test.true)))
 
 pub offer-requires-clause-rank : goal.offer-requires-clause-rank
 offer-requires-clause-rank g c =
     below-of _ _ _ _ _ (c.requires.place (record { node = c.args.node; value = c.loop-value.value }) (c.loop-value.auto.value, c.loop-value-test.true)) c.loop-value.invariant.so_far.limit
-    (c.plus.ensures ∙ ap (λ w. plus w c.index.result.now) (c.widened-widened.ensures ∙ ap (λ ds. widened (slice_index ds c.args.variable) c.args.before.now c.args.node) c.domains.ensures.domains)
-    ∙ ap (plus _) (c.index.ensures ∙ get_or_default c.args.slots.now.weights.items c.loop-value.value c.index.result.now None (omega (arith, c.requires.weights, c.loop-value-test.true))))
+    (c.plus_path.ensures ∙ ap (λ w. plus w c.index-added.result.now) (c.widened-widened.ensures ∙ ap (λ ds. widened (slice_index ds c.args.variable) c.args.before.now c.args.node) c.domains.ensures.domains)
+    ∙ ap (plus _) (c.index-added.ensures ∙ get_or_default c.args.slots.now.weights.items c.loop-value.value c.index-added.result.now None (omega (arith, c.requires.weights, c.loop-value-test.true))))
 
 pub loop-value-preserved : goal.loop-value-preserved
 loop-value-preserved g c = elim c.match-edge.branch [
   | in-Some w ↦
       let here : Step = record { node = c.args.node; value = c.loop-value.value } in
-      let weight_is = w.plus.ensures ∙ ap (λ x. plus x w.index.result.now) (c.widened-widened.ensures ∙ ap (λ ds. widened (slice_index ds c.args.variable) c.args.before.now c.args.node) c.domains.ensures.domains)
-      ∙ ap (plus _) (w.index.ensures ∙ get_or_default c.args.slots.now.weights.items c.loop-value.value w.index.result.now None (omega (arith, c.requires.weights, c.loop-value-test.true))) in
+      let weight_is = w.plus_path.ensures ∙ ap (λ x. plus x w.index-added.result.now) (c.widened-widened.ensures ∙ ap (λ ds. widened (slice_index ds c.args.variable) c.args.before.now c.args.node) c.domains.ensures.domains)
+      ∙ ap (plus _) (w.index-added.ensures ∙ get_or_default c.args.slots.now.weights.items c.loop-value.value w.index-added.result.now None (omega (arith, c.requires.weights, c.loop-value-test.true))) in
       record {
         so_far = subst (λ m. AreHeadsSoFar (level c.args.diagram.now c.args.variable) c.args.slots.now c.args.before.now c.args.node (c.loop-value.value + 1) m)
             (sym (w.next-is ∙ w.offer.ensures.offered ∙ ap (λ x. offered c.loop-value.next w.in-Some.target x here) weight_is))

@@ -1,5 +1,5 @@
 -- Equal ranks are those of paths of which neither comes before the other.
-use Rattle.std.proofs.Common.{◌≡◌, ◌↔◌, ℕ, nat_lt, false, Option, Some, None, IfSome, refl, sym, ap, ◌∙◌, arith}
+use Rattle.std.proofs.Common.{◌≡◌, ◌↔◌, ℕ, nat_lt, false, Option, Some, None, IfSome, sym, ap, ◌∙◌, arith}
 use Rattle.std.proofs.lemmas.Bool.Decides.{nat_tests}
 use Rattle.pc_diagram.specs.NodePaths.{comes_before}
 use Rattle.pc_diagram.proofs.LeastWords.{comes_before-irreflexive, comes_before-tells}
