@@ -61,7 +61,7 @@ none-without number (visit ∷ visits) none =
       | false ↦ (λ e. ap (λ vs. visit ∷ vs) (none-without number visits e))
     ]) none
 
-same-test : (one other : ℕ) → cond {A = ℕ} (one == other) 1 0 ≡ one_at one other
+pub same-test : (one other : ℕ) → cond {A = ℕ} (one == other) 1 0 ≡ one_at one other
 same-test one other =
     let turned : (one == other) ≡ (other == one) = by (other == one) refl in
     ap (λ b. cond {A = ℕ} b 1 0) turned

@@ -12,4 +12,5 @@ pub mod OpenLemmas
 pub mod ShelfPlaces
 pub mod ReclaimLemmas
 pub mod RebaseLemmas
+pub mod MoveLemmas
 pub mod PublishLemmas

@@ -1,25 +1,27 @@
 //! The book of a shop: its live versions, its callers, and the journal of all calls.
 
 ghost use Rattle.std.specs.Prelude.{◌≡◌, ◌≢◌, List, [], ◌∷◌, ◌++◌, ◌+◌, ◌-◌, ◌≤◌, ◌<◌, ◌^◌, length, map, slice_get, Some, IfOk, OnOk, OnErr};
-ghost use Rattle.pc_calls.specs.declared.call.Call.TheVariants.{Close, Enter, Leave, Versions, Open, Reclaim, Publish};
+ghost use Rattle.pc_calls.specs.declared.call.Call.TheVariants.{Close, Enter, Leave, Versions, Open, Reclaim, Publish, Rebase};
 ghost use Rattle.pc_calls.specs.declared.outcome.Outcome.TheVariants.{Done};
 ghost use Rattle.pc_calls.specs.History.{IsLegal, entry_of};
 ghost use Rattle.pc_calls.specs.Heads.{reply};
 ghost use Rattle.pc_book.specs.Book.{Shares, history_of, next_caller, state_of_book, with_entry};
 ghost use Rattle.pc_book.specs.Own.{StandsAfter, state_with};
 ghost use Rattle.pc_book.specs.Shelves.{live_at};
-ghost use Rattle.pc_book.specs.Rebases.{IsTarget};
+ghost use Rattle.pc_book.specs.Rebases.{IsMadeAt, IsTarget};
 ghost use Rattle.pc_book.specs.Sharing.{IsBuilt};
 
 use crate::opening::open_at_last;
 use crate::own::{Own, noted};
 use crate::publishing::shelve_built;
+use crate::rebasing::move_session;
 use crate::replying::{plain_head, refused};
 use crate::shelf::{Shelf, place, retire, unpin, unpin_all};
 use pc_base::{NoMemory, Reserved, Sequence};
 use pc_build::{BuildFault, SharedVersion, Version};
 use pc_calls::{Call, Entry, Head, Live, LiveList, Outcome, Reply};
 use pc_file::SharedFile;
+use pc_session::Rebased;
 use std::alloc::Global;
 use std::marker::Model;
 
@@ -314,6 +316,69 @@ impl Book {
             return Ok(None);
         };
         Ok(Some(self.shelves[place].version.share()?))
+    }
+
+    /// How many callers have entered.
+    pub fn entered(&self) -> u64
+        ensures { result ≡ length (state_of_book self.now).callers }
+    {
+        self.entered
+    }
+
+    /// What a session of a caller becomes at a version that is live; nothing where it isn't live, or the session isn't there or is at it.
+    ///
+    /// # Errors
+    ///
+    /// Want of memory.
+    pub fn prepared(
+        &self,
+        own: &Own,
+        session: u64,
+        version: u64,
+        dropping: bool,
+    ) -> Result<Option<Rebased>, NoMemory>
+        ensures { IfOk result (IsMadeAt (state_of_book self.now) own.now session version dropping) }
+    {
+        let Some(target) = self.target(version)? else {
+            return Ok(None);
+        };
+        own.prepare(session, version, &target, dropping)
+    }
+
+    /// A session moves to another live version, with what was made of it for that version.
+    ///
+    /// # Errors
+    ///
+    /// Want of memory.
+    pub fn rebase(
+        &mut self,
+        own: &mut Own,
+        session: u64,
+        version: u64,
+        dropping: bool,
+        made: Option<Rebased>,
+    ) -> Result<Reply, NoMemory>
+        requires stands { StandsAfter (history_of self.old) own.old }
+        requires made { IsMadeAt (state_of_book self.old) own.old session version dropping made }
+        ensures shares { IfOk result (λ reply. Shares (Rebase session version dropping) self.old self.new own.old own.new reply) }
+        ensures kept { OnErr result ((self.new ≡ self.old) × (own.new ≡ own.old)) }
+    {
+        make_room(&mut self.journal, self.present, 1)?;
+        let pending = Reserved::with_capacity(self.alloc, 1)?;
+        let shelves = self.shelves.as_mut_slice();
+        let (reply, head) = move_session(shelves, own, session, version, made)?;
+        let entry = Entry {
+            caller: own.caller(),
+            call: Call::Rebase {
+                session,
+                version,
+                dropping,
+            },
+            head,
+        };
+        let block = own.seal(entry, pending);
+        self.journal.push(block);
+        Ok(reply)
     }
 
     /// Makes a file the next version, over the version that its writer knew. The compiler made this of it.

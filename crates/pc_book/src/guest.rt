@@ -5,14 +5,14 @@ ghost use Rattle.pc_calls.specs.declared.outcome.Outcome.TheVariants.{Done};
 ghost use Rattle.pc_calls.specs.Selection.{free, show, shown};
 ghost use Rattle.pc_session.specs.Visit.{session_answer, visit_after};
 ghost use Rattle.pc_book.specs.Change.{changed};
-ghost use Rattle.pc_book.specs.Rebases.{IsPrepared};
+ghost use Rattle.pc_book.specs.Rebases.{IsPrepared, given_by, rebase_given, visit_version, with_visit};
 ghost use Rattle.pc_book.specs.Visits.{has_number, plain_head, close_reply, reply_among, visits_after, without_number};
 
 use crate::change::Change;
 use crate::replying::{plain_head, refused, replied};
-use pc_base::NoMemory;
+use pc_base::{NoMemory, Sequence};
 use pc_build::SharedVersion;
-use pc_calls::{Outcome, Reply, Shown};
+use pc_calls::{Head, Outcome, Reply, Shown};
 use pc_diagram::Steps;
 use pc_session::{Answer, Rebased, Session};
 use std::alloc::Global;
@@ -55,6 +55,32 @@ fn changed<L: Ledger>(
         Change::Retract { variable } => session.retract(&variable, &mut steps),
         Change::Bound { cost, most } => session.bound(&cost, most),
         Change::Unbound { cost } => session.unbound(&cost),
+    }
+}
+
+/// The reply to a rebase of a session at a version, and the session at the other one, where this was made.
+fn answer_made(
+    alloc: Global,
+    number: u64,
+    at: u64,
+    made: Rebased,
+) -> Result<(Reply, Option<Session>), NoMemory>
+    ensures { IfOk result (λ p. p ≡ given_by number at made) }
+{
+    match made {
+        Rebased::Refused(refusal) => Ok((refused(alloc, number, at, refusal), None)),
+        Rebased::Ready(session, listing, dropped) => {
+            let file = session.file().share()?;
+            let head = Head {
+                session: number,
+                version: session.version(),
+                outcome: Outcome::Done,
+                live: Sequence::new(alloc),
+                dropped,
+            };
+            let shown = Some(Shown { file, listing });
+            Ok((Reply { head, shown }, Some(session)))
+        }
     }
 }
 
@@ -154,5 +180,48 @@ impl Guest {
             return Ok(None);
         }
         Ok(Some(session.rebased(target, version, dropping)?))
+    }
+
+    /// The reply to a rebase of a session, and the session that is ready at the other version, if it moves.
+    pub fn answer_rebase(
+        &self,
+        number: u64,
+        version: u64,
+        live: bool,
+        made: Option<Rebased>,
+    ) -> Result<(Reply, Option<Session>), NoMemory>
+        ensures { IfOk result (λ p. p ≡ rebase_given number version live made (find (has_number number) self.now.sessions.items)) }
+    {
+        let Some(place) = place(self.sessions.as_slice(), number) else {
+            return Ok((refused(self.alloc, number, 0, Outcome::NoSession), None));
+        };
+        let at = self.sessions[place].version();
+        if version == at {
+            return Ok((refused(self.alloc, number, at, Outcome::SameVersion), None));
+        }
+        if !live {
+            return Ok((
+                refused(self.alloc, number, at, Outcome::NotLive { version }),
+                None,
+            ));
+        }
+        match made {
+            None => Ok((refused(self.alloc, number, at, Outcome::NoSession), None)),
+            Some(made) => answer_made(self.alloc, number, at, made),
+        }
+    }
+
+    /// A session takes the place of the one of its number, whose version is told.
+    pub fn exchange(&mut self, session: Session) -> u64
+        ensures version { result ≡ visit_version session.number self.old.sessions.items }
+        ensures sessions { self.new.sessions.items ≡ with_visit session self.old.sessions.items }
+        ensures opened { self.new.opened ≡ self.old.opened }
+    {
+        let Some(place) = place(self.sessions.as_slice(), session.number()) else {
+            return 0;
+        };
+        let left = self.sessions[place].version();
+        self.sessions[place] = session;
+        left
     }
 }

@@ -10,6 +10,7 @@ mod guest;
 mod opening;
 mod own;
 mod publishing;
+mod rebasing;
 mod replying;
 mod shelf;
 

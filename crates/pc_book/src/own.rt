@@ -1,6 +1,6 @@
 //! A caller's own part of the shop.
 
-ghost use Rattle.std.specs.Prelude.{◌≡◌, ◌<◌, List, [], ◌∷◌, ◌++◌, find, IfOk, OnOk, OnErr, ◌+◌, ◌^◌, length, Some};
+ghost use Rattle.std.specs.Prelude.{◌≡◌, ◌<◌, List, [], ◌∷◌, ◌++◌, find, option_map, IfOk, OnOk, OnErr, ◌+◌, ◌^◌, length, Some};
 ghost use Rattle.pc_calls.specs.declared.call.Call.TheVariants.{Show, Choose, Retract, Bound, Unbound};
 ghost use Rattle.pc_calls.specs.declared.entry.Entry.{Entry};
 ghost use Rattle.pc_calls.specs.Selection.{show, free, shown};
@@ -9,11 +9,11 @@ ghost use Rattle.pc_book.specs.Own.{OwnPart, Serves, StandsAfter, own_after};
 ghost use Rattle.pc_book.specs.Visits.{close_reply, has_number, plain_head, reply_among, without_number};
 ghost use Rattle.pc_calls.specs.declared.outcome.Outcome.TheVariants.{Done};
 ghost use Rattle.pc_book.specs.Sharing.{with_visit};
-ghost use Rattle.pc_book.specs.Rebases.{IsPrepared};
+ghost use Rattle.pc_book.specs.Rebases.{IsPrepared, rebase_given, visit_version, with_ready};
 
 use crate::change::Change;
 use crate::guest::Guest;
-use crate::replying::plain_head;
+use crate::replying::{head_again, plain_head};
 use pc_base::{NoMemory, Reserved, Sequence};
 use pc_build::SharedVersion;
 use pc_calls::{Call, Entry, Head, Reply};
@@ -156,6 +156,29 @@ impl Own {
         ensures { IfOk result (IsPrepared (find (has_number session) self.now.sessions) version target.now.file dropping) }
     {
         self.guest.prepare(session, version, target, dropping)
+    }
+
+    /// A rebase of a session to a version that is live or not, where this was made of it: the reply, its head once more, and the version that the session leaves, if it moves.
+    pub(crate) fn rebase(
+        &mut self,
+        session: u64,
+        version: u64,
+        live: bool,
+        made: Option<Rebased>,
+    ) -> Result<(Reply, Head, Option<u64>), NoMemory>
+        ensures reply { IfOk result (λ p. p.0 ≡ (rebase_given session version live made (find (has_number session) self.old.sessions)).0) }
+        ensures head { IfOk result (λ p. p.1 ≡ (rebase_given session version live made (find (has_number session) self.old.sessions)).0.head) }
+        ensures left { IfOk result (λ p. p.2 ≡ option_map (λ visit. visit_version visit.number self.old.sessions) (rebase_given session version live made (find (has_number session) self.old.sessions)).1) }
+        ensures part { OnOk result (self.new ≡ record { number = self.old.number; opened = self.old.opened; sessions = with_ready (rebase_given session version live made (find (has_number session) self.old.sessions)).1 self.old.sessions; pending = self.old.pending }) }
+        ensures kept { OnErr result (self.new ≡ self.old) }
+    {
+        let (reply, ready) = self.guest.answer_rebase(session, version, live, made)?;
+        let head = head_again(self.guest.alloc, &reply.head)?;
+        let Some(ready) = ready else {
+            return Ok((reply, head, None));
+        };
+        let left = self.guest.exchange(ready);
+        Ok((reply, head, Some(left)))
     }
 
     /// Its number among the callers, from 1 on.

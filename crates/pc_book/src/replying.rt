@@ -1,9 +1,9 @@
 //! Replies to the calls of one caller.
 
-ghost use Rattle.std.specs.Prelude.{◌≡◌, None};
+ghost use Rattle.std.specs.Prelude.{◌≡◌, None, IfOk};
 ghost use Rattle.pc_book.specs.Visits.{plain_head, shown_with};
 
-use pc_base::Sequence;
+use pc_base::{NoMemory, Sequence};
 use pc_calls::{Head, Outcome, Reply, Shown};
 use pc_diagram::Listing;
 use pc_file::SharedFile;
@@ -21,6 +21,19 @@ pub fn plain_head(alloc: Global, session: u64, version: u64, outcome: Outcome) -
         live: Sequence::new(alloc),
         dropped: Sequence::new(alloc),
     }
+}
+
+/// A head once more, with what it lists.
+pub(crate) fn head_again(alloc: Global, head: &Head) -> Result<Head, NoMemory>
+    ensures { IfOk result (λ again. again ≡ head.now) }
+{
+    Ok(Head {
+        session: head.session,
+        version: head.version,
+        outcome: head.outcome,
+        live: Sequence::from_slice(alloc, head.live.as_slice())?,
+        dropped: Sequence::from_slice(alloc, head.dropped.as_slice())?,
+    })
 }
 
 /// The reply to a call that was refused.
