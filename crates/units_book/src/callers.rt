@@ -25,7 +25,7 @@ fn tell_calls(rt: &HostRuntime, book: &mut Book, own: &mut Own) -> Result<()>
     ensures stands { StandsAfter (history_of book.new) own.new }
 {
     open(rt, book, own)?;
-    publish(rt, book, own)?;
+    publish(rt, book, own, 0, "bike.product")?;
     open(rt, book, own)?;
     tell_session(rt, book, own)?;
     book.settle(own)?;
@@ -35,7 +35,7 @@ fn tell_calls(rt: &HostRuntime, book: &mut Book, own: &mut Own) -> Result<()>
     close(rt, book, own)
 }
 
-fn open(rt: &HostRuntime, book: &mut Book, own: &mut Own) -> Result<()>
+pub fn open(rt: &HostRuntime, book: &mut Book, own: &mut Own) -> Result<()>
     requires stands { StandsAfter (history_of book.old) own.old }
     ensures stands { StandsAfter (history_of book.new) own.new }
 {
@@ -43,17 +43,23 @@ fn open(rt: &HostRuntime, book: &mut Book, own: &mut Own) -> Result<()>
     tell(rt, "open", &reply)
 }
 
-fn publish(rt: &HostRuntime, book: &mut Book, own: &mut Own) -> Result<()>
+pub fn publish(
+    rt: &HostRuntime,
+    book: &mut Book,
+    own: &mut Own,
+    base: u64,
+    path: &str,
+) -> Result<()>
     requires stands { StandsAfter (history_of book.old) own.old }
     ensures stands { StandsAfter (history_of book.new) own.new }
 {
-    let file = stored_file(rt, "bike.product")?;
+    let file = stored_file(rt, path)?;
     let built = compile(rt.alloc(), file.share()?);
-    let reply = book.publish(own, 0, file, built)?;
+    let reply = book.publish(own, base, file, built)?;
     tell(rt, "publish", &reply)
 }
 
-fn versions(rt: &HostRuntime, book: &mut Book, own: &mut Own) -> Result<()>
+pub fn versions(rt: &HostRuntime, book: &mut Book, own: &mut Own) -> Result<()>
     requires stands { StandsAfter (history_of book.old) own.old }
     ensures stands { StandsAfter (history_of book.new) own.new }
 {
@@ -61,7 +67,7 @@ fn versions(rt: &HostRuntime, book: &mut Book, own: &mut Own) -> Result<()>
     tell(rt, "versions", &reply)
 }
 
-fn reclaim(rt: &HostRuntime, book: &mut Book, own: &mut Own) -> Result<()>
+pub fn reclaim(rt: &HostRuntime, book: &mut Book, own: &mut Own) -> Result<()>
     requires stands { StandsAfter (history_of book.old) own.old }
     ensures stands { StandsAfter (history_of book.new) own.new }
 {

@@ -20,7 +20,7 @@ pub fn tell_session(rt: &HostRuntime, book: &Book, own: &mut Own) -> Result<()>
     show(rt, book, own)
 }
 
-fn choose(rt: &HostRuntime, _book: &Book, own: &mut Own) -> Result<()>
+pub fn choose(rt: &HostRuntime, _book: &Book, own: &mut Own) -> Result<()>
     requires stands { StandsAfter (history_of _book.now) own.old }
     ensures stands { StandsAfter (history_of _book.now) own.new }
 {
