@@ -24,8 +24,8 @@ use std::marker::Model;
 use std::mem;
 
 /// A caller's number, its open sessions, and its entries that wait for the journal. One more entry always has its place,
-/// so that a leave takes no memory. It can't be dropped: the caller leaves.
-#[derive(Debug)]
+/// so that a leave takes no memory.
+#[derive(Debug, Drop)]
 pub struct Own {
     number: u64,
     guest: Guest,
@@ -260,7 +260,7 @@ impl Own {
     }
 
     /// Changes what a session asks.
-    fn change(&mut self, session: u64, change: Change) -> Result<Reply, NoMemory>
+    pub fn change(&mut self, session: u64, change: Change) -> Result<Reply, NoMemory>
         ensures reply { IfOk result (λ reply. reply ≡ reply_among session (changed change) self.old.sessions) }
         ensures part { OnOk result (self.new ≡ own_after (change_call session change) session (changed change) self.old) }
         ensures kept { OnErr result (self.new ≡ self.old) }

@@ -14,13 +14,15 @@ use Rattle.pc_conn.specs.declared.item.Item.{Item}
 use Rattle.pc_conn.specs.declared.item.Item.TheVariants as item
 use Rattle.pc_conn.specs.declared.body.Body.TheVariants.{Cut}
 use Rattle.pc_script.specs.declared.item.Said.{Said}
-use Rattle.pc_script.specs.Request.{has_left, may_speak, most_callers, said_with}
+use Rattle.pc_script.specs.declared.callers.TheConstants.{MOST_CALLERS}
+use Rattle.pc_script.specs.Request.{has_left, may_speak, said_with}
 use Rattle.pc_script.specs.Script.{Script, commanded, publishing, beginning, entered, line_after, said_after}
 use Rattle.pc_script.specs.ScriptHistory.{entering, entries_from, item_entries, leaving, said_entries, said_in, script_history, script_items}
 use Rattle.pc_script.proofs.ScriptTexts.{entering-state, said-state}
-use Rattle.pc_script.proofs.ScriptTurns.{IsSpoken, line-turns, Speaks, state_at, Turns, Waits}
+use Rattle.pc_script.specs.Spoken.{IsNoEnter, Speaks}
+use Rattle.pc_script.proofs.ScriptTurns.{line-turns, state_at, Turns, Waits}
 
-one-legal : (state : State) (caller : ℕ) (one : Call) → may_make state caller one ≡ true → IsLegalFrom state (entry_of state caller one ∷ [])
+pub one-legal : (state : State) (caller : ℕ) (one : Call) → may_make state caller one ≡ true → IsLegalFrom state (entry_of state caller one ∷ [])
 unfolding IsLegalFrom
 one-legal state caller one may = (may, refl, tt)
 
@@ -29,7 +31,7 @@ unfolding IsLegalFrom
 none-legal state = tt
 
 -- a caller that has entered and not left makes any call that is spoken
-may-any : (state : State) (caller : ℕ) (one : Call) → IsSpoken one → is_present state caller ≡ true → may_make state caller one ≡ true
+pub may-any : (state : State) (caller : ℕ) (one : Call) → IsNoEnter one → is_present state caller ≡ true → may_make state caller one ≡ true
 may-any state caller call.Enter never present = absurd never
 may-any state caller call.Open calls present = present
 may-any state caller (call.Show session) calls present = present
@@ -37,15 +39,15 @@ may-any state caller (call.Choose session variable value) calls present = presen
 may-any state caller (call.Retract session variable) calls present = present
 may-any state caller (call.Bound session cost most) calls present = present
 may-any state caller (call.Unbound session cost) calls present = present
-may-any state caller (call.Rebase session version dropping) never present = absurd never
+may-any state caller (call.Rebase session version dropping) calls present = present
 may-any state caller (call.Close session) calls present = present
 may-any state caller (call.Publish base file) calls present = present
-may-any state caller (call.Reclaim version) never present = absurd never
-may-any state caller call.Versions never present = absurd never
+may-any state caller (call.Reclaim version) calls present = present
+may-any state caller call.Versions calls present = present
 may-any state caller call.Leave calls present = present
 
 -- what has a number within a list
-there : {A : Type 0} (xs : List A) (number : ℕ) → 1 ≤ number → number ≤ length xs → (x : A) × (numbered xs number ≡ Some x)
+pub there : {A : Type 0} (xs : List A) (number : ℕ) → 1 ≤ number → number ≤ length xs → (x : A) × (numbered xs number ≡ Some x)
 there xs zero some few = absurd (omega (arith, some))
 there xs (suc place) some few = at xs place (omega (arith, few))
   where
@@ -55,28 +57,28 @@ there xs (suc place) some few = at xs place (omega (arith, few))
     at (x ∷ xs) (suc place) few = at xs place (omega (arith, few))
 
 -- what a caller that may speak is
-record MaySpeak (state : State) (caller : ℕ) : Type 0 where
-  some : 1 ≤ caller
-  next : caller ≤ length state.callers + 1
-  stays : has_left state caller ≡ false
+pub record MaySpeak (state : State) (caller : ℕ) : Type 0 where
+  pub some : 1 ≤ caller
+  pub next : caller ≤ length state.callers + 1
+  pub stays : has_left state caller ≡ false
 
-speaker : (state : State) (caller : ℕ) → may_speak state caller ≡ true → MaySpeak state caller
+pub speaker : (state : State) (caller : ℕ) → may_speak state caller ≡ true → MaySpeak state caller
 speaker state caller may =
-    let last = both_true_parts (nat_le 1 caller && nat_le caller most_callers && nat_le caller (length state.callers + 1)) (not (has_left state caller)) may in
-    let third = both_true_parts (nat_le 1 caller && nat_le caller most_callers) (nat_le caller (length state.callers + 1)) last.0 in
-    let first = both_true_parts (nat_le 1 caller) (nat_le caller most_callers) third.0 in
+    let last = both_true_parts (nat_le 1 caller && nat_le caller MOST_CALLERS && nat_le caller (length state.callers + 1)) (not (has_left state caller)) may in
+    let third = both_true_parts (nat_le 1 caller && nat_le caller MOST_CALLERS) (nat_le caller (length state.callers + 1)) last.0 in
+    let first = both_true_parts (nat_le 1 caller) (nat_le caller MOST_CALLERS) third.0 in
     record { some = grind (arith, nat_tests, first.0); next = grind (arith, nat_tests, third.1); stays = not-true (has_left state caller) last.1 }
   where
     not-true : (b : Bool) → not b ≡ true → b ≡ false
     not-true true e = absurd cc
     not-true false e = refl
 
-stays-present : (found : Option Caller) (c : Caller) → found ≡ Some c → unwrap_or (option_map (λ (c : Caller). c.left) found) false ≡ false → unwrap_or (option_map (λ (c : Caller). not c.left) found) false ≡ true
+pub stays-present : (found : Option Caller) (c : Caller) → found ≡ Some c → unwrap_or (option_map (λ (c : Caller). c.left) found) false ≡ false → unwrap_or (option_map (λ (c : Caller). not c.left) found) false ≡ true
 stays-present None c is stays = absurd cc
 stays-present (Some d) c is stays = ap not stays
 
 -- it is present once it has entered
-speaker-present : (state : State) (caller : ℕ) → may_speak state caller ≡ true → is_present (entered state caller) caller ≡ true
+pub speaker-present : (state : State) (caller : ℕ) → may_speak state caller ≡ true → is_present (entered state caller) caller ≡ true
 speaker-present state caller may = by (nat_le caller (length state.callers)) refl
   where
     by : (inside : Bool) → nat_le caller (length state.callers) ≡ inside → is_present (if inside then state else after caller call.Enter state) caller ≡ true
@@ -89,7 +91,7 @@ speaker-present state caller may = by (nat_le caller (length state.callers)) ref
         ap (λ (found : Option Caller). unwrap_or (option_map (λ c. not c.left) found) false) (numbered-next state.callers [] newcomer caller (grind (arith, nat_tests, is, s.next)))
 
 -- and its enter, where it wants one, is legal
-entering-legal : (state : State) (caller : ℕ) → may_speak state caller ≡ true → IsLegalFrom state (entering state caller)
+pub entering-legal : (state : State) (caller : ℕ) → may_speak state caller ≡ true → IsLegalFrom state (entering state caller)
 entering-legal state caller may = by (nat_le caller (length state.callers)) refl
   where
     by : (inside : Bool) → nat_le caller (length state.callers) ≡ inside → IsLegalFrom state (if inside then [] else entry_of state caller call.Enter ∷ [])

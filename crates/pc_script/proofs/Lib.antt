@@ -4,11 +4,13 @@ pub mod BikeScripts
 pub mod Bodies
 pub mod RequestNext
 pub mod LegalScripts
-pub mod MadeCalls
 pub mod ScriptRun
 pub mod ScriptTexts
 pub mod ScriptTurns
-pub mod ShopCalls
-pub mod ShopKeeps
-pub mod ShopSteps
 pub mod ShortScripts
+pub mod PresentLemmas
+pub mod StandLemmas
+pub mod CallLemmas
+pub mod OnceLemmas
+pub mod SeatLemmas
+pub mod FinishLemmas

@@ -21,7 +21,7 @@ use Rattle.pc_script.specs.EndBy.{end_by, end_by_body}
 use Rattle.pc_script.specs.Request.{requested, said_with}
 use Rattle.pc_script.specs.Script.{commanded, answers, said_text, said_after}
 use Rattle.pc_script.specs.Turns.{SaysNext, HearsNone, HearsTurn, Hears, turn_after}
-use Rattle.pc_script.proofs.Bodies.{body-text, body-after, part-text, announced-text, announced-after, one-text, one-after, cut-text}
+use Rattle.pc_script.proofs.Bodies.{body-text, body-after, body-said, part-text, announced-text, announced-after, announced-said, one-text, one-after, one-said, cut-text, cut-said}
 
 none-silent : (state : State) → answers (commanded state) [] ≡ []
 unfolding answers
@@ -61,6 +61,7 @@ hears_said state said line bytes before after took e = record {
   took = took;
   some = omega arith;
   text = one-text state said line e;
+  items = one-said state said line e;
   then = one-after state said line e;
 }
 
@@ -74,6 +75,7 @@ given-body state awaited body line bytes before mid after e took stays calm give
   took = took_on (line ∷ []) gives.taken bytes gives.bytes before mid after stays calm took gives.took;
   some = omega arith;
   text = announced-text state awaited line gives.taken e ∙ body-text state awaited [] gives.taken (omega (arith, gives.all)) ∙ ap (λ (b : Body). said_text state (said_with awaited b)) (sym gives.gives);
+  items = announced-said state awaited line gives.taken e ∙ body-said state awaited [] gives.taken (omega (arith, gives.all)) ∙ ap (λ (b : Body). said_with awaited b ∷ []) (sym gives.gives);
   then = announced-after state awaited line gives.taken e ∙ body-after state awaited [] gives.taken (omega (arith, gives.all)) ∙ ap (λ (b : Body). commanded (said_after state (said_with awaited b))) (sym gives.gives);
 }
 
@@ -88,6 +90,7 @@ hears_body state awaited Cut line bytes before mid after e took stays calm reads
   took = took_on (line ∷ []) reads.taken bytes reads.bytes before mid after stays calm took reads.took;
   ended = reads.ended;
   text = cut-text state awaited line reads.taken e reads.fewer;
+  items = cut-said state awaited line reads.taken e reads.fewer;
 }
 
 -- a line, and not all lines of the text that it announces

@@ -26,7 +26,7 @@ entering-state state caller = by (nat_le caller (length state.callers))
     by true = refl
     by false = refl
 
-one-entry : (state : State) (entry : Entry) → after_entries state (entry ∷ []) ≡ after entry.caller entry.call state
+pub one-entry : (state : State) (entry : Entry) → after_entries state (entry ∷ []) ≡ after entry.caller entry.call state
 unfolding after_entries
 one-entry state entry = refl
 
@@ -56,7 +56,7 @@ nothing-more : (history : List Entry) → [] ≡ texts_after history []
 unfolding texts_after
 nothing-more history = refl
 
-said-later : (history : List Entry) (said : Said) (state : State) → state ≡ state_after history → said_after state said ≡ state_after (history ++ said_entries state said)
+pub said-later : (history : List Entry) (said : Said) (state : State) → state ≡ state_after history → said_after state said ≡ state_after (history ++ said_entries state said)
 said-later history said state is =
     sym (said-state state said) ∙ ap (λ s. after_entries s (said_entries state said)) is ∙ sym (after_entries-append empty history (said_entries state said))
 

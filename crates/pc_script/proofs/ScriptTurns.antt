@@ -1,19 +1,18 @@
 -- What a line of a script says, is answered and leaves.
-use Rattle.std.proofs.Common.{◌≡◌, ℕ, ◌+◌, Bool, true, false, cond, if◌then◌else◌, List, [], ◌∷◌, ◌++◌, length, Option, Some, None, Result, Ok, Err, inl, inr, ◌⊎◌, refl, sym, subst, ap, ◌∙◌}
+use Rattle.std.proofs.Common.{◌≡◌, ℕ, Bool, true, false, cond, if◌then◌else◌, List, [], ◌∷◌, ◌++◌, length, Option, Some, None, Result, Ok, Err, inl, inr, ◌⊎◌, refl, sym, subst}
 use Rattle.pc_calls.specs.declared.bad_column.BadColumn.{BadColumn}
 use Rattle.pc_calls.specs.declared.call.Call.{Call}
 use Rattle.pc_calls.specs.declared.call.Call.TheVariants as call
 use Rattle.pc_calls.specs.declared.line_call.LineCall.{LineCall}
 use Rattle.pc_calls.specs.declared.line_call.LineCall.TheVariants.{Whole, PublishHead}
-use Rattle.pc_calls.specs.CommandLine.{command_of, line_call}
+use Rattle.pc_calls.specs.CommandLine.{line_call}
 use Rattle.pc_names.specs.Number.{unsigned_of}
 use Rattle.pc_calls.specs.LineWords.{LineWord, words_from, end_of}
 use Rattle.pc_calls.specs.State.{State}
+use Rattle.pc_calls.specs.CallWords.{IsSayable}
 use Rattle.pc_calls.proofs.WordsSaid.{Says, read_is_said}
 use Rattle.pc_conn.specs.declared.body.Body.{Body}
 use Rattle.pc_conn.specs.declared.body.Body.TheVariants as body
-use Rattle.pc_conn.specs.declared.item.Item.{Item}
-use Rattle.pc_conn.specs.declared.item.Item.TheVariants as item
 use Rattle.pc_conn.specs.Items.{heard as heard_words, heard_call}
 use Rattle.pc_conn.specs.BodyText.{body_of}
 use Rattle.pc_file.specs.PrintedForm.{text_of_lines}
@@ -21,29 +20,15 @@ use Rattle.pc_script.specs.declared.item.Awaited.{Awaited}
 use Rattle.pc_script.specs.declared.item.Request.{Request}
 use Rattle.pc_script.specs.declared.item.Request.TheVariants as says
 use Rattle.pc_script.specs.declared.item.Said.{Said}
-use Rattle.pc_script.specs.Request.{bad_at, caller_of, requested, requested_after, requested_command, requested_from, is_later, may_speak, of_caller, only_if, said_with}
-use Rattle.pc_script.specs.Made.{IsMadeCall, is_later_first}
+use Rattle.pc_script.specs.Request.{caller_of, requested, requested_after, requested_from, may_speak, of_caller, only_if, said_with}
+use Rattle.pc_script.specs.Spoken.{IsNoEnter, IsSpokenBy, Speaks}
 use Rattle.pc_script.specs.Script.{Script, commanded, publishing, body_after, body_text, requested_text, is_whole, line_after, line_text, said_after, said_of, said_text, requested_after as script_after}
 use Rattle.pc_script.specs.ScriptHistory.{body_said, line_said, said_once}
-use Rattle.pc_script.proofs.MadeCalls.{made_by}
 
 -- the state of a script between two lines
 abbrev pub state_at : Script → State
 state_at (commanded state) = state
 state_at (publishing state awaited lines) = state
-
--- an item is no enter, and has its row
-abbrev pub IsSpoken : Call → Type 0
-IsSpoken call.Enter = ⊥
-IsSpoken (call.Rebase session version dropping) = ⊥
-IsSpoken (call.Reclaim version) = ⊥
-IsSpoken call.Versions = ⊥
-IsSpoken other = Unit {0}
-
--- a call is one of a caller that may speak
-abbrev pub Speaks : State → ℕ → Item → Type 0
-Speaks state caller (item.Call call) = (may_speak state caller ≡ true) × IsSpoken call
-Speaks state caller item = Unit {0}
 
 -- the caller of a publish that waits for its text may speak
 abbrev pub Waits : Script → Type 0
@@ -62,7 +47,7 @@ abbrev pub Turns : Script → List ℕ → Type 0
 Turns script line = TurnsTo (state_at script) (line_text script line) (line_said script line) (line_after script line)
 
 -- what a publish says with its text
-published-speaks : (state : State) (awaited : Awaited) (told : Body) → may_speak state awaited.caller ≡ true → Speaks state awaited.caller (said_with awaited told).item
+pub published-speaks : (state : State) (awaited : Awaited) (told : Body) → may_speak state awaited.caller ≡ true → Speaks state awaited.caller (said_with awaited told).item
 published-speaks state awaited (body.File file) may = (may, tt)
 published-speaks state awaited (body.Fault line kind) may = tt
 published-speaks state awaited body.Cut may = tt
@@ -75,44 +60,31 @@ body-turns state awaited lines may = by (is_whole awaited lines)
     by true = record { says = inr (said_of awaited lines, refl, refl, refl, published-speaks state awaited (body_of (text_of_lines lines)) may); waits = tt }
     by false = record { says = inl (refl, refl, refl); waits = may }
 
--- a call that a script makes is spoken
-spoken : (call : Call) → IsMadeCall call → IsSpoken call
-spoken call.Enter made = made
-spoken call.Open made = tt
-spoken (call.Show session) made = tt
-spoken (call.Choose session variable value) made = tt
-spoken (call.Retract session variable) made = tt
-spoken (call.Bound session cost most) made = tt
-spoken (call.Unbound session cost) made = tt
-spoken (call.Rebase session version dropping) made = made
-spoken (call.Close session) made = tt
-spoken (call.Publish base file) made = tt
-spoken (call.Reclaim version) made = made
-spoken call.Versions made = made
-spoken call.Leave made = tt
+-- no line says an enter
+no-enter : (call : Call) → IsSayable (Whole call) → IsNoEnter call
+no-enter call.Enter sayable = sayable
+no-enter call.Open sayable = tt
+no-enter (call.Show session) sayable = tt
+no-enter (call.Choose session variable value) sayable = tt
+no-enter (call.Retract session variable) sayable = tt
+no-enter (call.Bound session cost most) sayable = tt
+no-enter (call.Unbound session cost) sayable = tt
+no-enter (call.Rebase session version dropping) sayable = tt
+no-enter (call.Close session) sayable = tt
+no-enter (call.Publish base file) sayable = tt
+no-enter (call.Reclaim version) sayable = tt
+no-enter call.Versions sayable = tt
+no-enter call.Leave sayable = tt
 
--- what is heard is of a caller that may speak
-abbrev RequestSpeaks : State → Request → Type 0
-RequestSpeaks state (says.Said said) = Speaks state said.caller said.item
-RequestSpeaks state (says.Publish awaited) = may_speak state awaited.caller ≡ true
-
-words-speak : (state : State) (caller : ℕ) (line : List ℕ) (from : ℕ) → is_later_first (words_from line from) ≡ false → may_speak state caller ≡ true → RequestSpeaks state (of_caller caller (heard_words line from))
-words-speak state caller line from known may = by (line_call line from) refl
+words-speak : (state : State) (caller : ℕ) (line : List ℕ) (from : ℕ) → may_speak state caller ≡ true → IsSpokenBy state (of_caller caller (heard_words line from))
+words-speak state caller line from may = by (line_call line from) refl
   where
-    by : (read : Result LineCall BadColumn) → line_call line from ≡ read → RequestSpeaks state (of_caller caller (heard_call (length line) read))
+    by : (read : Result LineCall BadColumn) → line_call line from ≡ read → IsSpokenBy state (of_caller caller (heard_call (length line) read))
     by (Ok (Whole call)) is =
         let said : Says line from (Whole call) = read_is_said line from (Ok (Whole call)) (sym is) in
-        (may, spoken call (made_by call (words_from line from) said.0 said.1 known))
+        (may, no-enter call said.0)
     by (Ok (PublishHead base lines)) is = may
     by (Err bad) is = tt
-
-command-speaks : (state : State) (caller : ℕ) (line : List ℕ) (from : ℕ) (words : List LineWord) → words_from line from ≡ words → may_speak state caller ≡ true → RequestSpeaks state (requested_command caller line from words)
-command-speaks state caller line from [] are may = words-speak state caller line from (ap is_later_first are) may
-command-speaks state caller line from (word ∷ words) are may = by (is_later (command_of word.bytes)) refl
-  where
-    by : (later : Bool) → is_later (command_of word.bytes) ≡ later → RequestSpeaks state (if later then bad_at caller (word.place + 1) else of_caller caller (heard_words line from))
-    by true is = tt
-    by false is = words-speak state caller line from (ap is_later_first are ∙ is) may
 
 named-may : (state : State) (named : Option ℕ) (caller : ℕ) → only_if (may_speak state) named ≡ Some caller → may_speak state caller ≡ true
 named-may state None caller e = absurd cc
@@ -129,25 +101,25 @@ caller-may : (state : State) (word : List ℕ) (caller : ℕ) → caller_of stat
 unfolding caller_of
 caller-may state word caller e = named-may state (unsigned_of word) caller e
 
-from-speaks : (state : State) (line : List ℕ) (words : List LineWord) → RequestSpeaks state (requested_from state line words)
+from-speaks : (state : State) (line : List ℕ) (words : List LineWord) → IsSpokenBy state (requested_from state line words)
 from-speaks state line [] = tt
 from-speaks state line (word ∷ words) = by (caller_of state word.bytes) refl
   where
-    by : (caller : Option ℕ) → caller_of state word.bytes ≡ caller → RequestSpeaks state (requested_after caller line word)
+    by : (caller : Option ℕ) → caller_of state word.bytes ≡ caller → IsSpokenBy state (requested_after caller line word)
     by None is = tt
-    by (Some caller) is = command-speaks state caller line (end_of word) (words_from line (end_of word)) refl (caller-may state word.bytes caller is)
+    by (Some caller) is = words-speak state caller line (end_of word) (caller-may state word.bytes caller is)
 
-request-speaks : (state : State) (line : List ℕ) → RequestSpeaks state (requested state line)
+pub request_speaks : (state : State) (line : List ℕ) → IsSpokenBy state (requested state line)
 unfolding requested
-request-speaks state line = from-speaks state line (words_from line 0)
+request_speaks state line = from-speaks state line (words_from line 0)
 
-request-turns : (state : State) (h : Request) → RequestSpeaks state h → TurnsTo state (requested_text state h) (said_once h) (script_after state h)
+request-turns : (state : State) (h : Request) → IsSpokenBy state h → TurnsTo state (requested_text state h) (said_once h) (script_after state h)
 request-turns state (says.Said said) speaks = record { says = inr (said, refl, refl, refl, speaks); waits = tt }
 request-turns state (says.Publish awaited) may = body-turns state awaited [] may
 
 -- each line turns
 pub line-turns : (script : Script) (line : List ℕ) → Waits script → Turns script line
-line-turns (commanded state) line waits = request-turns state (requested state line) (request-speaks state line)
+line-turns (commanded state) line waits = request-turns state (requested state line) (request_speaks state line)
 line-turns (publishing state awaited lines) line may = body-turns state awaited (lines ++ line ∷ []) may
 
 -- what is said with the end is no call

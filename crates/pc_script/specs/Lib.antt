@@ -1,10 +1,10 @@
 pub mod BikeScript
 pub mod EndBy
+pub mod Present
 pub mod Request
-pub mod Made
 pub mod Script
 pub mod ScriptHistory
 pub mod ScriptOutcome
-pub mod ShopState
 pub mod ShortScript
+pub mod Spoken
 pub mod Turns

@@ -1,8 +1,5 @@
 -- What a line of a script says. It is `CALLER COMMAND`.
-use Rattle.std.specs.Prelude.{ℕ, ◌+◌, ◌&&◌, not, nat_le, Bool, true, false, if◌then◌else◌, List, [], ◌∷◌, length, Option, Some, None, option_map, unwrap_or}
-use Rattle.pc_calls.specs.declared.command.Command.{Command}
-use Rattle.pc_calls.specs.declared.command.Command.TheVariants as command
-use Rattle.pc_calls.specs.CommandLine.{command_of}
+use Rattle.std.specs.Prelude.{ℕ, ◌+◌, ◌&&◌, not, nat_le, Bool, false, if◌then◌else◌, List, [], ◌∷◌, length, Option, Some, None, option_map, unwrap_or}
 use Rattle.pc_names.specs.Number.{unsigned_of}
 use Rattle.pc_calls.specs.LineWords.{LineWord, words_from, end_of}
 use Rattle.pc_calls.specs.State.{State, numbered}
@@ -11,14 +8,11 @@ use Rattle.pc_conn.specs.declared.item.Heard.{Heard as HeardWords}
 use Rattle.pc_conn.specs.declared.item.Heard.TheVariants as words
 use Rattle.pc_conn.specs.declared.item.Item.TheVariants.{Bad}
 use Rattle.pc_conn.specs.Items.{heard as heard_words, published}
+use Rattle.pc_script.specs.declared.callers.TheConstants.{MOST_CALLERS}
 use Rattle.pc_script.specs.declared.item.Awaited.{Awaited}
 use Rattle.pc_script.specs.declared.item.Request.{Request}
 use Rattle.pc_script.specs.declared.item.Request.TheVariants as says
 use Rattle.pc_script.specs.declared.item.Said.{Said}
-
--- so many callers may speak
-abbrev pub most_callers : ℕ
-most_callers = 1
 
 -- a caller has left
 abbrev pub has_left : State → ℕ → Bool
@@ -26,7 +20,7 @@ has_left state caller = unwrap_or (option_map (λ c. c.left) (numbered state.cal
 
 -- the number is that of a caller that has entered and not left, or of the next to enter
 abbrev pub may_speak : State → ℕ → Bool
-may_speak state caller = nat_le 1 caller && nat_le caller most_callers && nat_le caller (length state.callers + 1) && not (has_left state caller)
+may_speak state caller = nat_le 1 caller && nat_le caller MOST_CALLERS && nat_le caller (length state.callers + 1) && not (has_left state caller)
 
 abbrev pub only_if : (ℕ → Bool) → Option ℕ → Option ℕ
 only_if may None = None
@@ -35,13 +29,6 @@ only_if may (Some caller) = if may caller then Some caller else None
 -- the caller that a word names
 unfoldable pub caller_of : State → List ℕ → Option ℕ
 caller_of state word = only_if (may_speak state) (unsigned_of word)
-
--- commands that a script doesn't know yet
-abbrev pub is_later : Option Command → Bool
-is_later (Some command.Rebase) = true
-is_later (Some command.Reclaim) = true
-is_later (Some command.Versions) = true
-is_later command = false
 
 -- a caller's line has its first wrong word, or lacks one, at this column; the caller is 0 where none may speak
 abbrev pub bad_at : ℕ → ℕ → Request
@@ -52,15 +39,10 @@ abbrev pub of_caller : ℕ → HeardWords → Request
 of_caller caller (words.Item item) = says.Said (record { caller = caller; item = item })
 of_caller caller (words.Publish publish) = says.Publish (record { caller = caller; publish = publish })
 
--- the word of a command, where the script doesn't know it yet, is the first wrong word
-abbrev pub requested_command : ℕ → List ℕ → ℕ → List LineWord → Request
-requested_command caller line from [] = of_caller caller (heard_words line from)
-requested_command caller line from (word ∷ words) =
-    if is_later (command_of word.bytes) then bad_at caller (word.place + 1) else of_caller caller (heard_words line from)
-
+-- after the word of a caller that may speak
 abbrev pub requested_after : Option ℕ → List ℕ → LineWord → Request
 requested_after None line word = bad_at 0 (word.place + 1)
-requested_after (Some caller) line word = requested_command caller line (end_of word) (words_from line (end_of word))
+requested_after (Some caller) line word = of_caller caller (heard_words line (end_of word))
 
 abbrev pub requested_from : State → List ℕ → List LineWord → Request
 requested_from state line [] = bad_at 0 (length line + 1)

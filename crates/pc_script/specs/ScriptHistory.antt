@@ -1,6 +1,7 @@
 -- The history that a script makes.
-use Rattle.std.specs.Prelude.{ℕ, ◌+◌, nat_le, if◌then◌else◌, List, [], ◌∷◌, ◌++◌, length}
+use Rattle.std.specs.Prelude.{ℕ, ◌+◌, nat_le, if◌then◌else◌, List, [], ◌∷◌, ◌++◌, length, map}
 use Rattle.pc_base.specs.Lines.{lines}
+use Rattle.pc_calls.specs.declared.call.Call.{Call}
 use Rattle.pc_calls.specs.declared.call.Call.TheVariants.{Enter, Leave}
 use Rattle.pc_calls.specs.declared.entry.Entry.{Entry}
 use Rattle.pc_calls.specs.History.{after_entries, entry_of, state_after}
@@ -28,6 +29,11 @@ said_once (says.Publish awaited) = body_said awaited []
 abbrev pub line_said : Script → List ℕ → List Said
 line_said (commanded state) line = said_once (requested state line)
 line_said (publishing state awaited lines) line = body_said awaited (lines ++ line ∷ [])
+
+-- what is said with the lines of an input, of which more may come
+unfoldable pub said_by : Script → List (List ℕ) → List Said
+said_by script [] = []
+said_by script (line ∷ lines) = line_said script line ++ said_by (line_after script line) lines
 
 -- what is said with the end: a publish that it cuts
 abbrev pub end_said : Script → List Said
@@ -60,6 +66,14 @@ unfoldable pub entries_from : State → List Said → List Entry
 entries_from state [] = []
 entries_from state (said ∷ later) = said_entries state said ++ entries_from (after_entries state (said_entries state said)) later
 
+-- of callers whose numbers begin with this one, the numbers of those that haven't left
+abbrev pub present_from : ℕ → List Caller → List ℕ
+present_from number [] = []
+present_from number (caller ∷ callers) = if caller.left then present_from (number + 1) callers else number ∷ present_from (number + 1) callers
+
+abbrev pub those_present : State → List ℕ
+those_present state = present_from 1 state.callers
+
 -- the leave of each of the callers from a number on that hasn't left
 unfoldable pub leaving : State → ℕ → List Caller → List Entry
 leaving state number [] = []
@@ -70,10 +84,44 @@ leaving state number (caller ∷ callers) =
 abbrev pub with_leaves : List Entry → List Entry
 with_leaves entries = entries ++ leaving (state_after entries) 1 (state_after entries).callers
 
+-- the entries of all that the bytes of a script say
+abbrev pub script_entries : List ℕ → List Entry
+script_entries bytes = entries_from empty (script_items bytes)
+
 abbrev pub script_history : List ℕ → List Entry
-script_history bytes = with_leaves (entries_from empty (script_items bytes))
+script_history bytes = with_leaves (script_entries bytes)
 
 -- the answers to what is said, each in the state after the history up to it
 unfoldable pub texts_after : List Entry → List Said → List ℕ
 texts_after history [] = []
 texts_after history (said ∷ later) = said_text (state_after history) said ++ texts_after (history ++ said_entries (state_after history) said) later
+
+-- a call, and the number of the caller that made it
+abbrev pub CallOf : Type 0
+CallOf = ℕ × Call
+
+-- the calls of entries, in order, but for the enters
+abbrev pub asked_in : ℕ → Call → List CallOf
+asked_in caller Enter = []
+asked_in caller call = (caller, call) ∷ []
+
+abbrev pub asked : List Entry → List CallOf
+asked [] = []
+asked (entry ∷ entries) = asked_in entry.caller entry.call ++ asked entries
+
+-- the calls of what is said, in order
+abbrev pub said_call : ℕ → Item → List CallOf
+said_call caller (item.Call call) = (caller, call) ∷ []
+said_call caller item = []
+
+abbrev pub said_calls : List Said → List CallOf
+said_calls [] = []
+said_calls (said ∷ later) = said_call said.caller said.item ++ said_calls later
+
+-- the leaves of callers of these numbers
+abbrev pub leaves_of : List ℕ → List CallOf
+leaves_of numbers = map (λ number. (number, Leave)) numbers
+
+-- the numbers of the callers that are present when all lines have been answered
+abbrev pub last_callers : List ℕ → List ℕ
+last_callers bytes = those_present (state_after (script_entries bytes))

@@ -1,5 +1,5 @@
 -- One turn of a script: the next line is heard, with the lines of a text where it announces one, and answered.
-use Rattle.std.specs.Prelude.{◌≡◌, ℕ, ◌≤◌, true, false, List, [], length, Option, Some, None, Result, Ok, Err}
+use Rattle.std.specs.Prelude.{◌≡◌, ℕ, ◌≤◌, true, false, List, [], ◌∷◌, length, Option, Some, None, Result, Ok, Err}
 use Rattle.std.specs.Io.KnownBytes.{append_known}
 use Rattle.pc_base.specs.Rose.{Rose}
 use Rattle.pc_io.specs.declared.line_fault.LineFault.{LineFault}
@@ -17,6 +17,7 @@ use Rattle.pc_script.specs.declared.turn.SaidNext.{SaidNext}
 use Rattle.pc_script.specs.declared.turn.Turn.{Turn}
 use Rattle.pc_script.specs.declared.turn.Turn.TheVariants.{Going, Last}
 use Rattle.pc_script.specs.Script.{commanded, answers, after_lines, last_answers, said_text, said_after}
+use Rattle.pc_script.specs.ScriptHistory.{said_by, said_in}
 
 -- lines were taken that say this, and a command comes next
 pub record SaysNext (state : State) (said : Said) (before after : Moment) : Type 0 where
@@ -25,6 +26,7 @@ pub record SaysNext (state : State) (said : Said) (before after : Moment) : Type
   pub took : Took taken bytes before after
   pub some : 1 ≤ length taken
   pub text : answers (commanded state) taken ≡ said_text state said
+  pub items : said_by (commanded state) taken ≡ said ∷ []
   pub then : after_lines (commanded state) taken ≡ commanded (said_after state said)
 
 -- the last lines were taken, which say this where nothing comes after them
@@ -34,6 +36,7 @@ pub record SaysLast (state : State) (said : Said) (before after : Moment) : Type
   pub took : Took taken bytes before after
   pub ended : after.cutter.ended ≡ true
   pub text : last_answers (commanded state) taken ≡ said_text state said
+  pub items : said_in (commanded state) taken ≡ said ∷ []
 
 -- nothing was left to take
 pub record SaysNothing (before after : Moment) : Type 0 where

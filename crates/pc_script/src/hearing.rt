@@ -3,13 +3,15 @@
 ghost use Rattle.std.specs.Prelude.{◌≡◌, ◌≤◌, ◌<◌, ◌+◌, false, [], None, Err, OnOk, IfOk, IfSome, IsTrue};
 ghost use Rattle.std.specs.Io.KnownBytes.{IsAtEnd};
 ghost use Rattle.pc_base.specs.Rose.{Rose};
-ghost use Rattle.pc_script.specs.Made.{IsMade};
+ghost use Rattle.pc_script.specs.Present.{ArePresent, state_at};
+ghost use Rattle.pc_script.specs.Spoken.{IsSpoken};
 ghost use Rattle.pc_script.specs.Turns.{Hears, turn_after};
 ghost use Rattle.pc_script.specs.declared.script_end.ScriptEnd.TheVariants.{ReadFault};
 
+use crate::callers::Callers;
 use crate::item::Request;
 use crate::script_end::ScriptEnd;
-use crate::shop::Shop;
+use crate::speaking::hear;
 use crate::turn::{SaidNext, Turn};
 use pc_conn::{Body, read_body};
 use pc_io::{Lines, Source};
@@ -18,16 +20,17 @@ use std::alloc::Global;
 /// What the next line says, with the lines of a text where it announces one. `None` where no line is left.
 pub fn hear_next<S: Source>(
     alloc: Global,
-    shop: &Shop,
+    callers: &Callers,
     lines: &mut Lines,
     source: &mut S,
 ) -> Result<Option<SaidNext>, ScriptEnd>
+    requires present { ArePresent callers.now.book callers.now.present.items }
     requires going { lines.old.ended ≡ false }
     requires sound { lines.old.fault ≡ None }
-    ensures hears { Hears shop.now result
+    ensures hears { Hears (state_at callers.now) result
         (record { cutter = lines.old; rest = S.rest source.old })
         (record { cutter = lines.new; rest = S.rest source.new }) }
-    ensures made { IfOk result (λ next. IfSome next (λ n. IsMade n.said)) }
+    ensures spoken { IfOk result (λ next. IfSome next (λ n. IsSpoken (state_at callers.now) n.said)) }
     ensures failed { result ≡ Err ReadFault → Rose (S.read_faults source.old) (S.read_faults source.new) }
     ensures sound { OnOk result (lines.new.fault ≡ None) }
     ensures at_end { IsTrue lines.new.ended → IsAtEnd (S.rest source.new) }
@@ -39,7 +42,7 @@ pub fn hear_next<S: Source>(
     let Some(line) = lines.next(source)? else {
         return Ok(None);
     };
-    match shop.hear(&line) {
+    match hear(callers, &line) {
         Request::Said(said) => Ok(Some(SaidNext {
             said,
             turn: Turn::Going,

@@ -41,12 +41,10 @@ impl Request {
 impl Awaited {
     ghost use Rattle.std.specs.Prelude.{◌≡◌};
     ghost use Rattle.pc_script.specs.Request.{said_with};
-    ghost use Rattle.pc_script.specs.Made.{IsMade};
 
     /// What the publish says with its text.
     pub fn with(self, body: Body) -> Said
-        ensures said { result ≡ said_with self body }
-        ensures made { self.caller ≡ 1 → IsMade result }
+        ensures { result ≡ said_with self body }
     {
         Said {
             caller: self.caller,

@@ -2,12 +2,13 @@
 //! the text that the definition gives for the bytes that were read, and every end of a script says how far it came.
 #![tactic(auto)]
 
+mod callers;
+mod calling;
 mod hearing;
 mod item;
 pub mod laws;
 mod running;
 mod script_end;
-mod shop;
 mod speaking;
 mod turn;
 

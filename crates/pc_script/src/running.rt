@@ -1,18 +1,23 @@
 //! Running a script.
 
-ghost use Rattle.std.specs.Prelude.{◌≡◌, ◌≤◌, ◌<◌, ◌+◌, ◌^◌, OnOk};
+ghost use Rattle.std.specs.Prelude.{◌≡◌, ◌≤◌, ◌++◌, [], OnOk};
 ghost use Rattle.pc_io.specs.Ends.{ends};
-ghost use Rattle.pc_calls.specs.State.{opened_by};
-ghost use Rattle.pc_script.specs.Made.{IsMade};
-ghost use Rattle.pc_script.specs.Script.{said_after, said_text};
-ghost use Rattle.pc_script.specs.ScriptOutcome.{Leaves, LeavesBy};
+ghost use Rattle.pc_calls.specs.History.{IsLegal};
+ghost use Rattle.pc_book.specs.Book.{history_of};
+ghost use Rattle.pc_script.specs.Present.{ArePresent, history_at, state_at};
+ghost use Rattle.pc_script.specs.Script.{said_text};
+ghost use Rattle.pc_script.specs.ScriptHistory.{said_entries};
+ghost use Rattle.pc_script.specs.ScriptOutcome.{Leaves, LeavesJournal, LeavesLines};
+ghost use Rattle.pc_script.specs.Spoken.{IsSpoken};
 ghost use Rattle.pc_script.specs.Turns.{Writes};
 
+use crate::callers::Callers;
 use crate::hearing::hear_next;
 use crate::item::Said;
 use crate::script_end::ScriptEnd;
-use crate::shop::Shop;
+use crate::speaking::answer;
 use crate::turn::Turn;
+use pc_book::Journal;
 use pc_io::{Lines, MOST_LINE_BYTES, Sink, Source, put_all};
 use std::alloc::Global;
 
@@ -29,32 +34,53 @@ pub fn run_script<S: Source, K: Sink>(alloc: Global, source: &mut S, sink: &mut 
     ensures read_aside { S.read_aside source.new ≡ S.read_aside source.old }
     ensures write_aside { K.write_aside sink.new ≡ K.write_aside sink.old }
 {
-    match answer_all(alloc, source, sink) {
+    match answer_all(alloc, source, sink).0 {
         Ok(()) => ScriptEnd::Ended,
         Err(end) => end,
     }
 }
 
-/// Answers line after line up to the end.
+/// Answers line after line up to the end, when those leave that are still present: how it ended, and the journal.
 fn answer_all<S: Source, K: Sink>(
     alloc: Global,
     source: &mut S,
     sink: &mut K,
-) -> Result<(), ScriptEnd>
+) -> (Result<(), ScriptEnd>, Journal)
     ensures left { let seen = ends S.rest S.read_faults K.written K.write_faults in
-        LeavesBy result (seen source.old sink.old) (seen source.new sink.new) }
+        LeavesJournal (history_of result.1) result.0 (seen source.old sink.old) (seen source.new sink.new) }
+    ensures legal { IsLegal (history_of result.1) }
     ensures counted_reads { S.read_faults source.old ≤ S.read_faults source.new }
     ensures counted_writes { K.write_faults sink.old ≤ K.write_faults sink.new }
     ensures read_aside { S.read_aside source.new ≡ S.read_aside source.old }
     ensures write_aside { K.write_aside sink.new ≡ K.write_aside sink.old }
 {
-    let mut lines = Lines::new(alloc, MOST_LINE_BYTES, MOST_SCRIPT_BYTES)?;
-    let mut shop = Shop::new(alloc);
+    let mut callers = Callers::new(alloc);
+    let answered = answer_lines(&mut callers, source, sink);
+    (answered, callers.finish())
+}
+
+/// Answers line after line up to the end.
+fn answer_lines<S: Source, K: Sink>(
+    callers: &mut Callers,
+    source: &mut S,
+    sink: &mut K,
+) -> Result<(), ScriptEnd>
+    requires book { callers.old.book ≡ [] }
+    requires nobody { callers.old.present.items ≡ [] }
+    ensures left { let seen = ends S.rest S.read_faults K.written K.write_faults in
+        LeavesLines (history_at callers.new) result (seen source.old sink.old) (seen source.new sink.new) }
+    ensures present { ArePresent callers.new.book callers.new.present.items }
+    ensures counted_reads { S.read_faults source.old ≤ S.read_faults source.new }
+    ensures counted_writes { K.write_faults sink.old ≤ K.write_faults sink.new }
+    ensures read_aside { S.read_aside source.new ≡ S.read_aside source.old }
+    ensures write_aside { K.write_aside sink.new ≡ K.write_aside sink.old }
+{
+    let mut lines = Lines::new(callers.alloc, MOST_LINE_BYTES, MOST_SCRIPT_BYTES)?;
     while !lines.has_ended() {
-        let Some(next) = hear_next(alloc, &shop, &mut lines, source)? else {
+        let Some(next) = hear_next(callers.alloc, callers, &mut lines, source)? else {
             return Ok(());
         };
-        answer(&mut shop, next.said, sink)?;
+        write_answer(callers, next.said, sink)?;
         match next.turn {
             Turn::Going => {}
             Turn::Last => return Ok(()),
@@ -64,16 +90,16 @@ fn answer_all<S: Source, K: Sink>(
 }
 
 /// Answers what was said, in one go.
-fn answer<K: Sink>(shop: &mut Shop, said: Said, sink: &mut K) -> Result<(), ScriptEnd>
-    requires made { IsMade said }
-    requires opened { opened_by shop.old 1 < 2 ^ 63 }
-    ensures writes { Writes (said_text shop.old said) result (K.written sink.old) (K.written sink.new) (K.write_faults sink.old) (K.write_faults sink.new) }
-    ensures state { OnOk result (shop.new ≡ said_after shop.old said) }
-    ensures opened { OnOk result (opened_by shop.new 1 ≤ opened_by shop.old 1 + 1) }
+fn write_answer<K: Sink>(callers: &mut Callers, said: Said, sink: &mut K) -> Result<(), ScriptEnd>
+    requires present { ArePresent callers.old.book callers.old.present.items }
+    requires spoken { IsSpoken (state_at callers.old) said }
+    ensures writes { Writes (said_text (state_at callers.old) said) result (K.written sink.old) (K.written sink.new) (K.write_faults sink.old) (K.write_faults sink.new) }
+    ensures present { ArePresent callers.new.book callers.new.present.items }
+    ensures recorded { OnOk result (history_at callers.new ≡ history_at callers.old ++ said_entries (state_at callers.old) said) }
     ensures counted { K.write_faults sink.old ≤ K.write_faults sink.new }
     ensures aside { K.write_aside sink.new ≡ K.write_aside sink.old }
 {
-    let text = shop.answer(said)?;
+    let text = answer(callers, said)?;
     put_all(sink, text.as_slice())?;
     Ok(())
 }

@@ -27,7 +27,7 @@ returns-in_err-body-in-Publish-clause-hears g c =
 pub returns-clause-hears : goal.returns-clause-hears
 returns-clause-hears g c =
     let call = rw c.in-Some.is at c.in_ok-line.ensures in
-    rw (c.with.ensures.said, c.turn_after-turn.ensures)
+    rw (c.with.ensures, c.turn_after-turn.ensures)
     (hears_body _ c.in-Publish.awaited c.in_ok-body-in-Publish.body c.in-Some.line _ _ _ _ (sym c.in-Publish.ensures.requested)
     (took_line c.in-Some.line c.args.lines.now c.next.new.self _ _ call.stream call.given call.line call.rises call.within call.limits)
     c.in_ok-body-in-Publish.ensures.stays_ended c.in_ok-body-in-Publish.ensures.calm c.in_ok-body-in-Publish.ensures.read)

@@ -1,51 +1,5 @@
-use Rattle.std.proofs.Common.{◌≡◌, false, true, ap, arith, Err}
-use Rattle.std.proofs.lemmas.Bool.Decides.{nat_tests}
-use Rattle.std.proofs.lemmas.Result.{err_from_is_err_and}
-use Rattle.pc_script.proofs.ScriptRun.{nothing_answered, script_begins, script_ends, script_finds_none, script_goes_on, script_says_last, script_unanswered, script_unheard}
+use Rattle.pc_script.proofs.OnceLemmas.{leaves_journal}
 use Rattle.pc_script.proofs.running.answer_all.Goals as goal
 
-pub returns-in_err-lines-clause-left : goal.returns-in_err-lines-clause-left
-returns-in_err-lines-clause-left g c =
-    let p = err_from_is_err_and c.from_residual.result c.from_residual.ensures.1 in
-    rw (p.1, p.2) (nothing_answered _ _ _ _ _ _ _)
-
-pub loop-alloc-init : goal.loop-alloc-init
-loop-alloc-init g c = rw (c.in_ok-lines.ensures, c.new-shop.ensures) (script_begins _ _ _ _ _ _)
-
-pub returns-in_err-next-clause-left : goal.returns-in_err-next-clause-left
-returns-in_err-next-clause-left g c =
-    let p = err_from_is_err_and c.from_residual-in_err-next.result c.from_residual-in_err-next.ensures.1 in
-    let going : c.loop-alloc.lines.ended ≡ false = grind (arith, nat_tests, c.has_ended.ensures, c.loop-alloc-test.true) in
-    let heard = c.in_err-next.ensures in
-    rw (p.1, p.2) (script_unheard _ _ _ _ _ _ _ _ _ _ _ _ _ _ c.loop-alloc.invariant _ c.hear_next.new.lines _ _ _ going heard.hears (λ is. heard.failed (ap (λ e. Err e) is)))
-
-pub returns-in_default-clause-left : goal.returns-in_default-clause-left
-returns-in_default-clause-left g c =
-    let going : c.loop-alloc.lines.ended ≡ false = grind (arith, nat_tests, c.has_ended.ensures, c.loop-alloc-test.true) in
-    let heard = rw c.in_default.is at c.in_ok-next.ensures in
-    script_finds_none _ _ _ _ _ _ _ _ _ _ _ _ _ _ c.loop-alloc.invariant c.hear_next.new.lines _ _ _ going heard.hears heard.none_kept heard.at_end
-
-pub returns-in_err-answer-clause-left : goal.returns-in_err-answer-clause-left
-returns-in_err-answer-clause-left g c =
-    let p = err_from_is_err_and c.from_residual-in_err-answer.result c.from_residual-in_err-answer.ensures.1 in
-    let going : c.loop-alloc.lines.ended ≡ false = grind (arith, nat_tests, c.has_ended.ensures, c.loop-alloc-test.true) in
-    let heard = rw c.in-Some.is at c.in_ok-next.ensures in
-    rw (p.1, p.2) (script_unanswered _ _ _ _ _ _ _ _ _ _ _ _ _ _ c.loop-alloc.invariant _ _ _ c.hear_next.new.lines _ _ _ _ going heard.hears heard.none_kept heard.at_end c.in_err-answer.ensures.writes)
-
-pub loop-alloc-preserved : goal.loop-alloc-preserved
-loop-alloc-preserved g c =
-    let going : c.loop-alloc.lines.ended ≡ false = grind (arith, nat_tests, c.has_ended.ensures, c.loop-alloc-test.true) in
-    let heard = rw (c.in-Some.is, c.in-Going.is) at c.in_ok-next.ensures in
-    let said = c.in_ok-answer.ensures in
-    script_goes_on _ _ _ _ _ _ _ _ _ _ _ _ _ _ c.loop-alloc.invariant c.hear_next.new.lines _ _ _ _ _ _ _ _ going heard.hears said.state said.writes said.opened heard.sound heard.at_end heard.none_kept heard.within heard.counted said.counted heard.aside said.aside
-
-pub returns-in-Last-clause-left : goal.returns-in-Last-clause-left
-returns-in-Last-clause-left g c =
-    let going : c.loop-alloc.lines.ended ≡ false = grind (arith, nat_tests, c.has_ended.ensures, c.loop-alloc-test.true) in
-    let heard = rw (c.in-Some.is, c.in-Last.is) at c.in_ok-next.ensures in
-    script_says_last _ _ _ _ _ _ _ _ _ _ _ _ _ _ c.loop-alloc.invariant c.hear_next.new.lines _ _ _ _ _ going heard.hears c.in_ok-answer.ensures.writes heard.none_kept heard.at_end
-
 pub returns-clause-left : goal.returns-clause-left
-returns-clause-left g c =
-    let ended : c.loop-alloc.lines.ended ≡ true = grind (arith, nat_tests, c.has_ended.ensures, c.loop-alloc-test.false) in
-    script_ends _ _ _ _ _ _ _ _ _ _ _ _ _ _ c.loop-alloc.invariant _ _ ended
+returns-clause-left g c = leaves_journal _ _ c.answer_lines-answered.result _ _ c.finish.ensures.history c.answer_lines-answered.ensures.left
