@@ -1,0 +1,4 @@
+pub mod CheapestLemmas
+pub mod Counting
+pub mod NumberedNames
+pub mod Standing
