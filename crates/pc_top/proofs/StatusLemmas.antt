@@ -24,6 +24,7 @@ no_job form.List before after does = does.leaves
 no_job form.Dump before after does = does.leaves
 no_job form.Check before after does = does.leaves
 no_job form.Script before after does = no_script does.end does.status_is
+no_job (form.Generate size) before after does = does.leaves
 
 pub not_two : (asked : Form) (status : Status) (before after : Ends) → Does asked status before after → code status ≡ 2 → ⊥
 not_two asked Done before after does two = absurd cc

@@ -2,6 +2,7 @@ pub mod Built
 pub mod CheckMeans
 pub mod Does
 pub mod DumpMeans
+pub mod Generates
 pub mod JobMeans
 pub mod ListMeans
 pub mod ListReply

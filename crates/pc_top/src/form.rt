@@ -1,7 +1,10 @@
 //! The forms of the command line.
 
 ghost use Rattle.std.specs.Prelude.{◌≡◌, map};
-ghost use Rattle.pc_top.specs.Words.{form_of, form_of_word};
+ghost use Rattle.pc_top.specs.Words.{form_of, form_of_two, form_of_word};
+
+use pc_generator::Size;
+use pc_names::read_unsigned;
 
 /// A job of the program.
 #[derive(Clone, Copy, Debug, PartialEq, Eq)]
@@ -14,6 +17,8 @@ pub enum Form {
     Check,
     /// `script`: lines of commands in, their answers out.
     Script,
+    /// `generate N`: nothing in, the summary of the generator's file of N variables out.
+    Generate(Size),
 }
 
 impl Form {
@@ -23,6 +28,7 @@ impl Form {
     {
         match words {
             [word] => Form::of_word(word.as_slice()),
+            [word, number] => Form::of_two(word.as_slice(), number.as_slice()),
             _ => None,
         }
     }
@@ -41,5 +47,14 @@ impl Form {
         } else {
             None
         }
+    }
+
+    fn of_two(word: &[u8], number: &[u8]) -> Option<Form>
+        ensures { result ≡ form_of_two word.now number.now }
+    {
+        if word != b"generate".as_slice() {
+            return None;
+        }
+        Some(Form::Generate(Size::of(read_unsigned(number)?)?))
     }
 }

@@ -4,6 +4,7 @@
 mod building;
 mod check_reply;
 mod form;
+mod generate;
 mod job;
 pub mod laws;
 mod listing;

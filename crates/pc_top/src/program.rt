@@ -8,6 +8,7 @@ ghost use Rattle.pc_top.specs.Does.{Does, Exits};
 ghost use Rattle.pc_top.specs.Words.{form_of};
 
 use crate::form::Form;
+use crate::generate::generate;
 use crate::job::{Job, answer};
 use crate::script::script;
 use crate::status::Status;
@@ -18,7 +19,8 @@ use std::alloc::Global;
 ///
 /// `list` reads a product text and writes its listing without choices and bounds, and a line `.`; `dump` writes the text
 /// of its diagram; `check` reads the text of a diagram and writes how many nodes and edges that has. `script` reads lines
-/// of commands and writes the answer to each before it waits for the next.
+/// of commands and writes the answer to each before it waits for the next. `generate N` reads nothing, and writes a summary
+/// of what sessions list of a made file of N variables, from 2 to 64.
 ///
 /// A line has at most 65,536 bytes; a product text at most 1,048,576, a diagram's text at most 134,217,728, and all lines
 /// of commands together at most 16,777,216.
@@ -67,5 +69,6 @@ fn do_form<S: Source, K: Sink>(alloc: Global, form: Form, source: &mut S, sink: 
         Form::Dump => answer(alloc, Job::Dump, source, sink),
         Form::Check => answer(alloc, Job::Check, source, sink),
         Form::Script => script(alloc, source, sink),
+        Form::Generate(size) => generate(alloc, size, source, sink),
     }
 }

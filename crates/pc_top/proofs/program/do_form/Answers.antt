@@ -12,3 +12,6 @@ returns-in-Check-clause-does g c = rw c.in-Check.is c.answer-in-Check.ensures.an
 
 pub returns-in-Script-clause-does : goal.returns-in-Script-clause-does
 returns-in-Script-clause-does g c = rw c.in-Script.is c.script.ensures.runs
+
+pub returns-in-Generate-clause-does : goal.returns-in-Generate-clause-does
+returns-in-Generate-clause-does g c = rw c.in-Generate.is c.generate.ensures.generates
