@@ -16,7 +16,6 @@ use Rattle.pc_book.specs.Book.{Shares, history_of, next_caller, state_of_book}
 use Rattle.pc_book.specs.Own.{IsLocalOf, OwnPart, Serves, StandsAfter, state_with}
 use Rattle.pc_book.proofs.BookLemmas.{history-more}
 use Rattle.pc_book.proofs.OwnLemmas.{after-more}
-use Rattle.pc_generator.specs.declared.asking.Answers.{Answers}
 use Rattle.pc_generator.specs.Answers.{AreAnswers}
 use Rattle.pc_generator.specs.GeneratedFile.{generated}
 use Rattle.pc_generator.specs.GeneratorCalls.{after_calls, bound_days, bound_price, generator_caller, opening, publishing, reply_after}
